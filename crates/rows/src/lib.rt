@@ -13,6 +13,7 @@
 // Each function's contract is an equation with a definition of specs/; specs/Promises.antt has the laws.
 mod fault;
 mod row;
+mod rules;
 
 pub use fault::Fault;
 pub use fault::Reading;
@@ -24,3 +25,8 @@ pub use row::put;
 pub use row::room;
 pub use row::Row;
 pub use row::RowAt;
+pub use rules::good;
+pub use rules::good_length;
+pub use rules::judge;
+pub use rules::Judged;
+pub use rules::Kind;

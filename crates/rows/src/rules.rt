@@ -1,0 +1,194 @@
+// The row rules: which rows are good, and what a writer asks of one row after another.
+ghost use mathlib.Core.Path.{_≡_};
+ghost use mathlib.Core.List.{[], _∷_};
+ghost use lib.ListN.{length};
+ghost use Rattle.rows.specs.Rules.{kindOf, unused, below, timely, goodPair, goodAs, goodRow, judgedOf, goodLength};
+
+use crate::fault::Fault;
+use crate::row::Row;
+
+// The six kinds of rows, and every other number.
+pub enum Kind {
+    Pixel,
+    Trigger,
+    ImuCounts,
+    ImuSingles,
+    UsbPacket,
+    Special,
+    Other,
+}
+
+// What one row of a list to be written gets: its time, which the next row's must reach, or a refusal.
+pub enum Judged {
+    Time(u64),
+    Refused(Fault),
+}
+
+impl Kind {
+    pub fn of(number: u32) -> Kind
+        ensures { λ r. ⌜ r ≡ kindOf number ⌝ }
+    {
+        match number {
+            1 => Kind::Pixel,
+            2 => Kind::Trigger,
+            3 => Kind::ImuCounts,
+            4 => Kind::ImuSingles,
+            5 => Kind::UsbPacket,
+            6 => Kind::Special,
+            _ => Kind::Other,
+        }
+    }
+}
+
+// Whether five data numbers are all 0, as unused ones are. A caller with fewer passes 0.
+fn are_unused(c: u32, d: u32, e: u32, f: u32, g: u32) -> bool
+    ensures { λ r. ⌜ r ≡ unused (c ∷ d ∷ e ∷ f ∷ g ∷ []) ⌝ }
+{
+    if c != 0 {
+        return false;
+    }
+    if d != 0 {
+        return false;
+    }
+    if e != 0 {
+        return false;
+    }
+    if f != 0 {
+        return false;
+    }
+    g == 0
+}
+
+// Whether six data numbers are all below a limit.
+fn are_below(limit: u32, a: u32, b: u32, c: u32, d: u32, e: u32, f: u32) -> bool
+    ensures { λ r. ⌜ r ≡ below limit (a ∷ b ∷ c ∷ d ∷ e ∷ f ∷ []) ⌝ }
+{
+    if limit <= a {
+        return false;
+    }
+    if limit <= b {
+        return false;
+    }
+    if limit <= c {
+        return false;
+    }
+    if limit <= d {
+        return false;
+    }
+    if limit <= e {
+        return false;
+    }
+    f < limit
+}
+
+// Whether a row's time is within the limit of 2^34 microseconds.
+fn is_timely(row: Row) -> bool
+    ensures { λ r. ⌜ r ≡ timely row ⌝ }
+{
+    row.time() < 17179869184
+}
+
+fn is_pixel(row: Row) -> bool
+    ensures { λ r. ⌜ r ≡ goodAs Kind.Pixel row ⌝ }
+{
+    if !is_timely(row) {
+        return false;
+    }
+    if !are_below(32768, row.a, row.b, 0, 0, 0, 0) {
+        return false;
+    }
+    if 2 <= row.c {
+        return false;
+    }
+    are_unused(0, row.d, row.e, row.f, row.g)
+}
+
+// Whether a row has two data numbers below their limits and no others, as triggers and special events have.
+fn is_pair(row: Row, first: u32, second: u32) -> bool
+    ensures { λ r. ⌜ r ≡ goodPair first second row ⌝ }
+{
+    if !is_timely(row) {
+        return false;
+    }
+    if first <= row.a {
+        return false;
+    }
+    if second <= row.b {
+        return false;
+    }
+    are_unused(row.c, row.d, row.e, row.f, row.g)
+}
+
+fn is_imu_counts(row: Row) -> bool
+    ensures { λ r. ⌜ r ≡ goodAs Kind.ImuCounts row ⌝ }
+{
+    if !is_timely(row) {
+        return false;
+    }
+    if !are_below(65536, row.a, row.b, row.c, row.d, row.e, row.f) {
+        return false;
+    }
+    are_unused(0, 0, 0, 0, row.g)
+}
+
+fn is_usb_packet(row: Row) -> bool
+    ensures { λ r. ⌜ r ≡ goodAs Kind.UsbPacket row ⌝ }
+{
+    if row.time() != 0 {
+        return false;
+    }
+    if 2 <= row.a {
+        return false;
+    }
+    are_unused(0, 0, row.e, row.f, row.g)
+}
+
+// Whether a row keeps the rules of a kind.
+pub fn good_as(kind: Kind, row: Row) -> bool
+    ensures { λ r. ⌜ r ≡ goodAs kind row ⌝ }
+{
+    match kind {
+        Kind::Pixel => is_pixel(row),
+        Kind::Trigger => is_pair(row, 32, 2),
+        Kind::ImuCounts => is_imu_counts(row),
+        Kind::ImuSingles => is_timely(row),
+        Kind::UsbPacket => is_usb_packet(row),
+        Kind::Special => is_pair(row, 128, 16777216),
+        Kind::Other => false,
+    }
+}
+
+// Whether a row is a good row; any other is refused 12.
+pub fn good(row: Row) -> bool
+    ensures { λ r. ⌜ r ≡ goodRow row ⌝ }
+{
+    good_as(Kind::of(row.kind), row)
+}
+
+// Whether a list of rows to be written has a length that is not refused 13.
+pub fn good_length(rows: &[u32]) -> bool
+    ensures { λ r. ⌜ r ≡ goodLength (length (now (rows .entry))) ⌝ }
+{
+    if rows.len() % 10 != 0 {
+        return false;
+    }
+    rows.len() / 10 <= 16777216
+}
+
+// One row of a list to be written, after a row of the time `last`: 12 where it is bad or the format cannot
+// write it, then 5 where its time is below `last`.
+pub fn judge(row: Row, writable: bool, last: u64) -> Judged
+    ensures { λ r. ⌜ r ≡ judgedOf writable row last ⌝ }
+{
+    if !good(row) {
+        return Judged::Refused(Fault::BadRow);
+    }
+    if !writable {
+        return Judged::Refused(Fault::BadRow);
+    }
+    let time = row.time();
+    if time < last {
+        return Judged::Refused(Fault::BadTime);
+    }
+    Judged::Time(time)
+}

@@ -11,10 +11,20 @@
 //     Reading, Writing, Fault             what a reader and a writer answer, with the number of each refusal
 //
 // Each function's contract is an equation with a definition of specs/; specs/Promises.antt has the laws.
+mod event;
 mod fault;
 mod row;
 mod rules;
 
+pub use event::acceleration;
+pub use event::Conversion;
+pub use event::event_numbers;
+pub use event::event_of;
+pub use event::Event;
+pub use event::EventNumbers;
+pub use event::Patterns;
+pub use event::rotation;
+pub use event::single;
 pub use fault::Fault;
 pub use fault::Reading;
 pub use fault::ReadingNumbers;

@@ -1,0 +1,71 @@
+-- What the row rules say of a row that keeps them, and which rows keep them.
+use mathlib.Core.Path.{_≡_, refl, sym, _∙_, ap}
+use Prim.Native.Nat.{ℕ, _+_, _*_, _/_, _%_, _≤_, _<_}
+use native.Mathlib.Omega.{arith}
+use mathlib.Core.Bool.{Bool, true, false, _&&_}
+use mathlib.Core.List.{List, [], _∷_}
+use lib.Dec.{ltb}
+use borrow.Author.Tests.{lt-ltb, ltb-true}
+use Rattle.rows.specs.declared.row.Row.{Row}
+use Rattle.rows.specs.declared.rules.Kind.the-variants.{ImuCounts}
+use Rattle.rows.specs.Row.{timeOf, timed, pixelRow, triggerRow, countsRow, singlesRow, packetRow, specialRow}
+use Rattle.rows.specs.Rules.{below, unused, timely, kindOf, goodAs, goodRow}
+
+pub and-first : (x y : Bool) → x && y ≡ true → x ≡ true
+and-first true y e = refl
+and-first false y e = e
+
+pub and-second : (x y : Bool) → x && y ≡ true → y ≡ true
+and-second true y e = e
+and-second false true e = refl
+and-second false false e = e
+
+-- each of some numbers below a limit
+abbrev pub Below : ℕ → List ℕ → Type 0
+Below limit [] = Unit {0}
+Below limit (n ∷ ns) = (n < limit) × Below limit ns
+
+pub below-each : (limit : ℕ) (ns : List ℕ) → below limit ns ≡ true → Below limit ns
+below-each limit [] e = tt
+below-each limit (n ∷ ns) e = (ltb-true n limit (and-first (ltb n limit) _ e), below-each limit ns (and-second (ltb n limit) _ e))
+
+pub counts-below : (r : Row) → goodAs ImuCounts r ≡ true → Below 65536 (r .a ∷ r .b ∷ r .c ∷ r .d ∷ r .e ∷ r .f ∷ [])
+unfolding goodAs
+counts-below r e =
+    below-each 65536 (r .a ∷ r .b ∷ r .c ∷ r .d ∷ r .e ∷ r .f ∷ []) (and-second (timely r) _ (and-first _ (unused (r .g ∷ [])) e))
+
+-- a row made at a time has that time
+pub timed-time : (kind time a b c d e f g : ℕ) → timeOf (timed kind time a b c d e f g) ≡ time
+unfolding timeOf timed
+timed-time kind time a b c d e f g = omega arith
+
+-- rows made within the limits are good
+module _ (time : ℕ) (h : time < 17179869184) where
+  timed-timely : (kind a b c d e f g : ℕ) → timely (timed kind time a b c d e f g) ≡ true
+  timed-timely kind a b c d e f g = lt-ltb (timeOf (timed kind time a b c d e f g)) 17179869184 (omega (arith, timed-time kind time a b c d e f g))
+
+  pub pixel-good : (x y polarity : ℕ) → x < 32768 → y < 32768 → polarity < 2 → goodRow (pixelRow time x y polarity) ≡ true
+  unfolding goodRow goodAs kindOf timed
+  pixel-good x y p hx hy hp = simp (timed-timely 1 x y p 0 0 0 0, lt-ltb _ _ hx, lt-ltb _ _ hy, lt-ltb _ _ hp)
+
+  pub trigger-good : (channel edge : ℕ) → channel < 32 → edge < 2 → goodRow (triggerRow time channel edge) ≡ true
+  unfolding goodRow goodAs kindOf timed
+  trigger-good channel edge hc he = simp (timed-timely 2 channel edge 0 0 0 0 0, lt-ltb _ _ hc, lt-ltb _ _ he)
+
+  pub counts-good : (ax ay az rx ry rz : ℕ) → ax < 65536 → ay < 65536 → az < 65536 → rx < 65536 → ry < 65536 → rz < 65536
+      → goodRow (countsRow time ax ay az rx ry rz) ≡ true
+  unfolding goodRow goodAs kindOf timed
+  counts-good ax ay az rx ry rz h₁ h₂ h₃ h₄ h₅ h₆ =
+      simp (timed-timely 3 ax ay az rx ry rz 0, lt-ltb _ _ h₁, lt-ltb _ _ h₂, lt-ltb _ _ h₃, lt-ltb _ _ h₄, lt-ltb _ _ h₅, lt-ltb _ _ h₆)
+
+  pub singles-good : (ax ay az rx ry rz temperature : ℕ) → goodRow (singlesRow time ax ay az rx ry rz temperature) ≡ true
+  unfolding goodRow goodAs kindOf timed
+  singles-good ax ay az rx ry rz k = timed-timely 4 ax ay az rx ry rz k
+
+  pub special-good : (code content : ℕ) → code < 128 → content < 16777216 → goodRow (specialRow time code content) ≡ true
+  unfolding goodRow goodAs kindOf timed
+  special-good code content hc hn = simp (timed-timely 6 code content 0 0 0 0 0, lt-ltb _ _ hc, lt-ltb _ _ hn)
+
+pub packet-good : (flag count high low : ℕ) → flag < 2 → goodRow (packetRow flag count high low) ≡ true
+unfolding goodRow goodAs kindOf timed timeOf
+packet-good flag count high low h = simp (lt-ltb _ _ h)

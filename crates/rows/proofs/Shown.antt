@@ -1,0 +1,55 @@
+-- The event of a row, and its numbers, from what the code has in hand.
+use mathlib.Core.Path.{_≡_, refl, sym, _∙_, ap}
+use Prim.Native.Nat.{ℕ}
+use native.Mathlib.Omega.{arith}
+use mathlib.Core.Bool.{true, false}
+use mathlib.Core.List.{List, [], _∷_}
+use lib.ListN.{length}
+use lib.Ieee.{Float}
+use borrow.Author.Tests.{eq-eqb, ne-eqb}
+use Rattle.rows.specs.declared.fault.Fault.{Fault}
+use Rattle.rows.specs.declared.fault.Fault.the-variants.{BadList}
+use Rattle.rows.specs.declared.row.Row.{Row}
+use Rattle.rows.specs.declared.row.RowAt.the-variants.{Found, Nothing}
+use Rattle.rows.specs.declared.rules.Kind.{Kind}
+use Rattle.rows.specs.declared.event.Event.{Event}
+use Rattle.rows.specs.declared.event.Conversion.the-variants.{Turned, Refused}
+use Rattle.rows.specs.declared.event.EventNumbers.{EventNumbers}
+use Rattle.rows.specs.Row.{timeOf, rowFrom, rowAt}
+use Rattle.rows.specs.Rules.{kindOf, goodRow}
+use Rattle.rows.specs.Event.{eventAs, eventOf, readingsOf, refusedNumbers, rowNumbers, eventNumbers}
+
+pub event-good : (r : Row) {k : Kind} → k ≡ kindOf (r .kind) → goodRow r ≡ true → eventAs k r ≡ eventOf r
+unfolding eventOf
+event-good r e g = rw (g, e)
+
+pub shown-turned : (r : Row) {e : Event} {t : ℕ} {readings : List Float} → eventOf r ≡ Turned e → t ≡ timeOf r → readings ≡ readingsOf e
+    → let shown : EventNumbers = record { refusal = 0; kind = r .kind; time = t; values = r .a ∷ r .b ∷ r .c ∷ r .d ∷ r .e ∷ r .f ∷ r .g ∷ []; readings = readings } in
+    shown ≡ rowNumbers r
+unfolding rowNumbers
+shown-turned r p q s = rw (p, q, s)
+
+pub shown-refused : (r : Row) {f : Fault} → eventOf r ≡ Refused f → refusedNumbers f ≡ rowNumbers r
+unfolding rowNumbers
+shown-refused r p = rw p
+
+ten-found : (l : List ℕ) → length l ≡ 10 → rowAt l 0 ≡ Found (rowFrom l 0)
+ten-found l h = rw h
+
+same-row : {r s : Row} → Found r ≡ Found s → r ≡ s
+same-row e = cc
+
+no-row : {E : Type 0} {r : Row} → Nothing ≡ Found r → E
+no-row e = let z : _≡_ {A = ℕ} 0 1 = cc in absurd (omega arith)
+
+module _ (l : List ℕ) where
+  pub numbers-bad : (length l ≡ 10 → ⊥) → refusedNumbers BadList ≡ eventNumbers l
+  unfolding eventNumbers
+  numbers-bad h = simp (ne-eqb _ _ h)
+
+  pub numbers-row : {r : Row} → length l ≡ 10 → Found r ≡ rowAt l 0 → rowNumbers r ≡ eventNumbers l
+  unfolding eventNumbers
+  numbers-row {r} h e = simp (eq-eqb _ _ h) (ap rowNumbers (same-row (e ∙ ten-found l h)))
+
+  pub numbers-none : {E : Type 0} → length l ≡ 10 → Nothing ≡ rowAt l 0 → E
+  numbers-none h e = no-row (e ∙ ten-found l h)

@@ -1,14 +1,19 @@
 -- What judging one row after another says of a list that is to be written.
 use mathlib.Core.Path.{_≡_, refl, sym, _∙_, ap, subst}
-use Prim.Native.Nat.{ℕ, zero, suc, _≤_, _<_}
-use mathlib.Core.Bool.{Bool, true, false}
+use Prim.Native.Nat.{ℕ, zero, suc, _+_, _-_, _*_, _/_, _≤_, _<_}
+use native.Mathlib.Numerals.{add-one}
+use native.Mathlib.Omega.{arith}
+use mathlib.Core.Bool.{Bool, true, false, _&&_}
 use mathlib.Core.List.{List, [], _∷_}
-use borrow.Author.Tests.{lt-ltb, le-ltb}
-use Rattle.rows.specs.declared.fault.Fault.the-variants.{BadTime}
+use lib.ListN.{length}
+use lib.Dec.{ltb}
+use borrow.Author.Tests.{lt-ltb, le-ltb, ltb-true, ltb-false}
+use Rattle.rows.specs.declared.fault.Fault.{Fault}
+use Rattle.rows.specs.declared.fault.Fault.the-variants.{BadTime, BadRow}
 use Rattle.rows.specs.declared.row.Row.{Row}
 use Rattle.rows.specs.declared.rules.Judged.the-variants.{Time, Refused}
-use Rattle.rows.specs.Row.{timeOf}
-use Rattle.rows.specs.Rules.{goodRow, judgedOf}
+use Rattle.rows.specs.Row.{timeOf, roomOf, rowFrom, rowsFrom, rowsOf}
+use Rattle.rows.specs.Rules.{goodRow, goodLength, judgedOf, Verdict, accepted, refused, verdictThen, verdictFrom, verdictOf, Writable}
 
 -- a good row that the format can write is judged by its time t
 module _ (r : Row) {writable : Bool} {t : ℕ} (last : ℕ) (g : goodRow r ≡ true) (w : writable ≡ true) (e : t ≡ timeOf r) where
@@ -19,3 +24,61 @@ module _ (r : Row) {writable : Bool} {t : ℕ} (last : ℕ) (g : goodRow r ≡ t
   pub judged-time : last ≤ t → Time t ≡ judgedOf writable r last
   unfolding judgedOf
   judged-time h = simp (g, w, le-ltb (timeOf r) last (subst (λ (k : ℕ). last ≤ k) e h)) (ap Time e)
+
+no-refusal : {E : Type 0} {f : Fault} {i : ℕ} → refused f i ≡ accepted → E
+no-refusal e = let z : _≡_ {A = ℕ} 0 1 = cc in absurd (omega arith)
+
+module _ (writable : Row → Bool) where
+  -- accepted: every row is good, writable and no earlier than the one before
+  pub accepted-writable : (rs : List Row) (i last : ℕ) → verdictFrom writable rs i last ≡ accepted → Writable writable last rs
+  unfolding verdictFrom judgedOf
+  accepted-writable [] i last h = tt
+  accepted-writable (r ∷ rs) i last h = go (λ k. accepted-writable rs (suc i) (timeOf r) k) (goodRow r) refl (writable r) refl (ltb (timeOf r) last) refl
+    where
+      go : (verdictFrom writable rs (suc i) (timeOf r) ≡ accepted → Writable writable (timeOf r) rs) → (g : Bool) → goodRow r ≡ g → (w : Bool) → writable r ≡ w
+          → (b : Bool) → ltb (timeOf r) last ≡ b → Writable writable last (r ∷ rs)
+      go ih true eg true ew false eb = (eg, ew, ltb-false _ _ eb, ih (simp (eg, ew, eb) at h))
+      go ih true eg true ew true eb = no-refusal (simp (eg, ew, eb) at h)
+      go ih true eg false ew b eb = no-refusal (simp (eg, ew) at h)
+      go ih false eg w ew b eb = no-refusal (simp eg at h)
+
+  pub writable-accepted : (rs : List Row) (i last : ℕ) → Writable writable last rs → verdictFrom writable rs i last ≡ accepted
+  unfolding verdictFrom judgedOf
+  writable-accepted [] i last h = refl
+  writable-accepted (r ∷ rs) i last h =
+      simp (h .0, h .1, le-ltb (timeOf r) last (h .2)) (writable-accepted rs (suc i) (timeOf r) (h .3))
+
+  -- the invariant of a loop that judges row after row of l: i rows passed, the last at the time `last`
+  pub record Judging (l : List ℕ) (i last : ℕ) : Type 0 where
+    pub same : verdictFrom writable (rowsOf l) 0 0 ≡ verdictFrom writable (rowsFrom l i (roomOf l - i)) i last
+    pub within : i ≤ roomOf l
+
+  pub judging-start : (l : List ℕ) → Judging l 0 0
+  unfolding rowsOf
+  judging-start l =
+      let e : roomOf l ≡ roomOf l - 0 = omega arith in
+      record { same = ap (λ (k : ℕ). verdictFrom writable (rowsFrom l 0 k) 0 0) e; within = omega arith }
+
+  module _ {l : List ℕ} {i last : ℕ} (h : Judging l i last) where
+    -- all rows passed
+    pub judging-done : roomOf l ≤ i → verdictFrom writable (rowsOf l) 0 0 ≡ accepted
+    unfolding rowsFrom verdictFrom
+    judging-done f =
+        let e : roomOf l - i ≡ 0 = omega arith in
+        h .same ∙ ap (λ (k : ℕ). verdictFrom writable (rowsFrom l i k) i last) e
+
+    -- row i is judged
+    module _ (f : i < roomOf l) where
+      here : verdictFrom writable (rowsOf l) 0 0
+          ≡ verdictThen (judgedOf (writable (rowFrom l (i * 10))) (rowFrom l (i * 10)) last) i (verdictFrom writable (rowsFrom l (suc i) (roomOf l - suc i)) (suc i))
+      unfolding rowsFrom verdictFrom
+      here =
+          let e : roomOf l - i ≡ suc (roomOf l - suc i) = omega arith in
+          h .same ∙ ap (λ (k : ℕ). verdictFrom writable (rowsFrom l i k) i last) e
+
+      pub judging-next : {t : ℕ} → Time t ≡ judgedOf (writable (rowFrom l (i * 10))) (rowFrom l (i * 10)) last → Judging l (i + 1) t
+      judging-next {t} e = rw (add-one i) (record { same = here ∙ rw (sym e); within = f })
+
+      pub judging-refused : {fault : Fault} → Refused fault ≡ judgedOf (writable (rowFrom l (i * 10))) (rowFrom l (i * 10)) last
+          → verdictFrom writable (rowsOf l) 0 0 ≡ refused fault i
+      judging-refused e = here ∙ rw (sym e)

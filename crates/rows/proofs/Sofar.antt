@@ -112,7 +112,7 @@ module _ {S : Type 0} {whole : Run S} {old : List ℕ} {n₀ : ℕ} {rest : ℕ 
     sofar-stopped {f} {place} {n′} {buf′} d =
         let turned : rest (roomOf old - n) ≡ prepend (sub .rows) (stopped (refused f place)) = e ∙ rw (d .ending) (sym (prepend-none (sub .rows) (refused f place))) in
         let more : Sofar whole old n₀ (λ _. stopped (refused f place)) n′ buf′ =
-            sofar-more (sub .rows) turned (d .count) (omega (arith, d .fits, sofar-room)) (d .wrote) in
+        sofar-more (sub .rows) turned (d .count) (omega (arith, d .fits, sofar-room)) (d .wrote) in
         sofar-ends more refl
 
 -- nothing was read

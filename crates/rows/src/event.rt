@@ -6,13 +6,12 @@ ghost use lib.Ieee.{binary32, ofInt};
 ghost use Rattle.rows.specs.Rules.{goodAs};
 ghost use Rattle.rows.specs.Readings.{signedOf, accelerationOf, rotationOf, singleOf};
 ghost use Rattle.rows.specs.Event.{countsEvent, singlesEvent, eventAs, eventOf, eventTime, readingsOf, refusedNumbers, rowNumbers, eventNumbers};
-
 use crate::fault::Fault;
-use crate::row::get;
 use crate::row::Row;
 use crate::row::RowAt;
-use crate::rules::good;
+use crate::row::get;
 use crate::rules::Kind;
+use crate::rules::good;
 
 // The bits of an IMU's seven singles as they stand in the row. A NaN's payload is kept here alone.
 pub struct Patterns {
@@ -211,12 +210,48 @@ impl Event {
         ensures { λ r. ⌜ r ≡ eventTime self ⌝ }
     {
         match self {
-            Event::Pixel { time, x: _, y: _, polarity: _ } => time,
-            Event::Trigger { time, channel: _, edge: _ } => time,
-            Event::ImuCounts { time, ax: _, ay: _, az: _, rx: _, ry: _, rz: _ } => time,
-            Event::ImuSingles { time, ax: _, ay: _, az: _, rx: _, ry: _, rz: _, temperature: _, patterns: _ } => time,
-            Event::UsbPacket { time, flag: _, count: _, system: _ } => time,
-            Event::Special { time, code: _, content: _ } => time,
+            Event::Pixel {
+                time,
+                x: _,
+                y: _,
+                polarity: _,
+            } => time,
+            Event::Trigger {
+                time,
+                channel: _,
+                edge: _,
+            } => time,
+            Event::ImuCounts {
+                time,
+                ax: _,
+                ay: _,
+                az: _,
+                rx: _,
+                ry: _,
+                rz: _,
+            } => time,
+            Event::ImuSingles {
+                time,
+                ax: _,
+                ay: _,
+                az: _,
+                rx: _,
+                ry: _,
+                rz: _,
+                temperature: _,
+                patterns: _,
+            } => time,
+            Event::UsbPacket {
+                time,
+                flag: _,
+                count: _,
+                system: _,
+            } => time,
+            Event::Special {
+                time,
+                code: _,
+                content: _,
+            } => time,
         }
     }
 
@@ -225,12 +260,48 @@ impl Event {
         ensures { λ r. ⌜ r ≡ readingsOf self ⌝ }
     {
         match self {
-            Event::Pixel { time: _, x: _, y: _, polarity: _ } => [0.0; 7],
-            Event::Trigger { time: _, channel: _, edge: _ } => [0.0; 7],
-            Event::ImuCounts { time: _, ax, ay, az, rx, ry, rz } => [ax, ay, az, rx, ry, rz, 0.0],
-            Event::ImuSingles { time: _, ax, ay, az, rx, ry, rz, temperature, patterns: _ } => [ax, ay, az, rx, ry, rz, temperature],
-            Event::UsbPacket { time: _, flag: _, count: _, system: _ } => [0.0; 7],
-            Event::Special { time: _, code: _, content: _ } => [0.0; 7],
+            Event::Pixel {
+                time: _,
+                x: _,
+                y: _,
+                polarity: _,
+            } => [0.0; 7],
+            Event::Trigger {
+                time: _,
+                channel: _,
+                edge: _,
+            } => [0.0; 7],
+            Event::ImuCounts {
+                time: _,
+                ax,
+                ay,
+                az,
+                rx,
+                ry,
+                rz,
+            } => [ax, ay, az, rx, ry, rz, 0.0],
+            Event::ImuSingles {
+                time: _,
+                ax,
+                ay,
+                az,
+                rx,
+                ry,
+                rz,
+                temperature,
+                patterns: _,
+            } => [ax, ay, az, rx, ry, rz, temperature],
+            Event::UsbPacket {
+                time: _,
+                flag: _,
+                count: _,
+                system: _,
+            } => [0.0; 7],
+            Event::Special {
+                time: _,
+                code: _,
+                content: _,
+            } => [0.0; 7],
         }
     }
 }

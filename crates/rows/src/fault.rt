@@ -48,13 +48,8 @@ pub enum Reading {
 
 // What a writer answers: the words written, or the index of the first bad row.
 pub enum Writing {
-    Written {
-        count: usize,
-    },
-    Refused {
-        fault: Fault,
-        row: usize,
-    },
+    Written { count: usize },
+    Refused { fault: Fault, row: usize },
 }
 
 // A reader's answer as three numbers: refusal 0 and place 0 where it finished.

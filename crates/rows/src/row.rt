@@ -66,7 +66,16 @@ impl Row {
     }
 
     // Kind 4: the bits of an IMU's seven singles, as kind 3 and then the temperature.
-    pub fn imu_singles(time: u64, ax: u32, ay: u32, az: u32, rx: u32, ry: u32, rz: u32, temperature: u32) -> Row
+    pub fn imu_singles(
+        time: u64,
+        ax: u32,
+        ay: u32,
+        az: u32,
+        rx: u32,
+        ry: u32,
+        rz: u32,
+        temperature: u32,
+    ) -> Row
         ensures { λ r. ⌜ r ≡ singlesRow time ax ay az rx ry rz temperature ⌝ }
     {
         timed(4, time, ax, ay, az, rx, ry, rz, temperature)
@@ -140,7 +149,18 @@ pub fn put(rows: &mut [u32], i: usize, row: Row) -> bool
     ensures { λ r. ⌜ PutRow (now (rows .entry)) i row (now (rows .exit)) r ⌝ }
 {
     if i < room(rows) {
-        let numbers = [row.kind, row.low, row.high, row.a, row.b, row.c, row.d, row.e, row.f, row.g];
+        let numbers = [
+            row.kind,
+            row.low,
+            row.high,
+            row.a,
+            row.b,
+            row.c,
+            row.d,
+            row.e,
+            row.f,
+            row.g,
+        ];
         copy_to(rows, i * 10, &numbers);
         return true;
     }

@@ -3,7 +3,6 @@ ghost use mathlib.Core.Path.{_≡_};
 ghost use mathlib.Core.List.{[], _∷_};
 ghost use lib.ListN.{length};
 ghost use Rattle.rows.specs.Rules.{kindOf, unused, below, timely, goodPair, goodAs, goodRow, judgedOf, goodLength};
-
 use crate::fault::Fault;
 use crate::row::Row;
 

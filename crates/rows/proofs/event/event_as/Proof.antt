@@ -1,113 +1,83 @@
-use mathlib.Core.Path.{_∙_, sym, ap, subst}
 use Rattle.rows.specs.Event.{eventAs}
 use borrow.Author.Needs.{needs}
 use Rattle.rows.proofs.event.event_as.Statement.{statement}
 use Rattle.rows.proofs.event.event_as.Tie as tie
-use Rattle.rows.proofs.event.event_as.Reads as reads
-use Rattle.rows.proofs.event.event_as.Lts as lts
-use Rattle.rows.proofs.event.counts_event.Reads as counts-event-reads
-use Rattle.rows.proofs.event.singles_event.Reads as singles-event-reads
-use Rattle.rows.proofs.row.Row.time.Reads as time-reads
 
--- src/event.rt:171:19
 enum-told : tie.Need-enum-told
 enum-told c = search needs
 
--- src/event.rt:171:19
 time-requires : tie.Need-time-requires
 time-requires c κs = search needs
 
--- src/event.rt:177:19
 enum-told-2 : tie.Need-enum-told-2
 enum-told-2 c = search needs
 
--- src/event.rt:177:19
 time-requires-2 : tie.Need-time-requires-2
 time-requires-2 c κs = search needs
 
--- src/event.rt:181:47
 enum-told-3 : tie.Need-enum-told-3
 enum-told-3 c = search needs
 
--- src/event.rt:181:47
 counts-event-requires : tie.Need-counts-event-requires
 counts-event-requires c κs = rw (c .enum-told3 .given .1) at (c .before .before .pre)
 
--- src/event.rt:182:48
 enum-told-4 : tie.Need-enum-told-4
 enum-told-4 c = search needs
 
--- src/event.rt:182:48
 singles-event-requires : tie.Need-singles-event-requires
 singles-event-requires c κs = search needs
 
--- src/event.rt:184:19
 enum-told-5 : tie.Need-enum-told-5
 enum-told-5 c = search needs
 
--- src/event.rt:184:19
 time-requires-3 : tie.Need-time-requires-3
 time-requires-3 c κs = search needs
 
--- src/event.rt:187:21
 cast-t11 : tie.Need-cast-t11
 cast-t11 c = search needs
 
--- src/event.rt:187:21
 mul-t12 : tie.Need-mul-t12
 mul-t12 c = search needs
 
--- src/event.rt:187:49
 cast-t13 : tie.Need-cast-t13
 cast-t13 c = search needs
 
--- src/event.rt:187:21
 add-t14 : tie.Need-add-t14
 add-t14 c = search needs
 
--- src/event.rt:190:19
 enum-told-6 : tie.Need-enum-told-6
 enum-told-6 c = search needs
 
--- src/event.rt:190:19
 time-requires-4 : tie.Need-time-requires-4
 time-requires-4 c κs = search needs
 
--- src/event.rt:194:44
 enum-told-7 : tie.Need-enum-told-7
 enum-told-7 c = search needs
 
--- src/event.rt:165:1
 returns : tie.Need-returns
 unfolding eventAs
 returns c = rw (c .before .enum-told .given .1, c .time .ensures)
 
--- src/event.rt:165:1
 returns-2 : tie.Need-returns-2
 unfolding eventAs
 returns-2 c = rw (c .before .enum-told2 .given .1, c .time2 .ensures)
 
--- src/event.rt:165:1
 returns-3 : tie.Need-returns-3
 unfolding eventAs
 returns-3 c = rw (c .before .enum-told3 .given .1, c .counts-event .ensures)
 
--- src/event.rt:165:1
 returns-4 : tie.Need-returns-4
 unfolding eventAs
 returns-4 c = rw (c .before .enum-told4 .given .1, c .singles-event .ensures)
 
--- src/event.rt:165:1
 returns-5 : tie.Need-returns-5
 unfolding eventAs
 returns-5 c = rw (c .before .before .before .enum-told5 .given .1, c .before .before .time3 .ensures)
 
--- src/event.rt:165:1
 returns-6 : tie.Need-returns-6
 unfolding eventAs
 returns-6 c = rw (c .before .enum-told6 .given .1, c .time4 .ensures)
 
--- src/event.rt:165:1
 returns-7 : tie.Need-returns-7
 unfolding eventAs
 returns-7 c = rw (c .enum-told7 .given .1)

@@ -3,51 +3,37 @@ use mathlib.Core.Path.{_∙_, sym}
 use borrow.Author.Needs.{needs}
 use Rattle.rows.proofs.event.event_numbers.Statement.{statement}
 use Rattle.rows.proofs.event.event_numbers.Tie as tie
-use Rattle.rows.proofs.event.event_numbers.Reads as reads
-use Rattle.rows.proofs.event.event_numbers.Lts as lts
-use Rattle.rows.proofs.event.refused_numbers.Reads as refused-numbers-reads
-use Rattle.rows.proofs.event.row_numbers.Reads as row-numbers-reads
-use Rattle.rows.proofs.row.get.Reads as get-reads
 
--- src/event.rt:271:9
 refused-numbers-requires : tie.Need-refused-numbers-requires
 refused-numbers-requires c κs = search needs
 
--- src/event.rt:271:9
 returns : tie.Need-returns
 returns c = c .refused-numbers .ensures ∙ numbers-bad (c .before .before .before .args .numbers .now) (c .before .if1 .taken)
 
--- src/event.rt:273:9
 get-requires : tie.Need-get-requires
 get-requires c κs = search needs
 
--- src/event.rt:275:22
 enum-known-first : tie.Need-enum-known-first
 enum-known-first c = search needs
 
--- src/event.rt:275:30
 row-numbers-requires : tie.Need-row-numbers-requires
 row-numbers-requires c κs = search needs
 
--- src/event.rt:276:43
 enum-told : tie.Need-enum-told
 enum-told c = search needs
 
--- src/event.rt:276:27
 refused-numbers-requires-2 : tie.Need-refused-numbers-requires-2
 refused-numbers-requires-2 c κs = search needs
 
--- src/event.rt:267:1
 returns-2 : tie.Need-returns-2
-returns-2 c = 
+returns-2 c =
     let found = c .before .before in
     let got = found .before .before in
     let start = got .before .before .before in
     c .row-numbers .ensures ∙ numbers-row (start .args .numbers .now) (got .before .if1 .left) (sym (found .first .given .1) ∙ got .get .ensures)
 
--- src/event.rt:267:1
 returns-3 : tie.Need-returns-3
-returns-3 c = 
+returns-3 c =
     let got = c .before .before .before in
     let start = got .before .before .before in
     numbers-none (start .args .numbers .now) (got .before .if1 .left) (sym (c .before .enum-told .given .1) ∙ got .get .ensures)

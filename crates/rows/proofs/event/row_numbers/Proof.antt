@@ -1,54 +1,38 @@
 use Rattle.rows.proofs.Shown.{shown-turned, shown-refused}
-use mathlib.Core.Path.{_∙_, sym, ap}
-use Rattle.rows.specs.Event.{rowNumbers}
+use mathlib.Core.Path.{_∙_, sym}
 use borrow.Author.Needs.{needs}
 use Rattle.rows.proofs.event.row_numbers.Statement.{statement}
 use Rattle.rows.proofs.event.row_numbers.Tie as tie
-use Rattle.rows.proofs.event.row_numbers.Reads as reads
-use Rattle.rows.proofs.event.row_numbers.Lts as lts
-use Rattle.rows.proofs.event.Event.readings.Reads as readings-reads
-use Rattle.rows.proofs.event.event_of.Reads as event-of-reads
-use Rattle.rows.proofs.event.refused_numbers.Reads as refused-numbers-reads
-use Rattle.rows.proofs.row.Row.time.Reads as time-reads
 
--- src/event.rt:253:9
 event-of-requires : tie.Need-event-of-requires
 event-of-requires c κs = search needs
 
--- src/event.rt:255:28
 enum-known-conversion : tie.Need-enum-known-conversion
 enum-known-conversion c = search needs
 
--- src/event.rt:257:19
 cast-t6 : tie.Need-cast-t6
 cast-t6 c = search needs
 
--- src/event.rt:258:19
 time-requires : tie.Need-time-requires
 time-requires c κs = search needs
 
--- src/event.rt:260:23
 readings-requires : tie.Need-readings-requires
 readings-requires c κs = search needs
 
--- src/event.rt:262:29
 enum-known-conversion-2 : tie.Need-enum-known-conversion-2
 enum-known-conversion-2 c = search needs
 
--- src/event.rt:262:39
 refused-numbers-requires : tie.Need-refused-numbers-requires
 refused-numbers-requires c κs = search needs
 
--- src/event.rt:250:1
 returns : tie.Need-returns
-returns c = 
+returns c =
     let found = c .before .before .before .before in
     let start = found .before .before .before in
     shown-turned (start .args .row) (sym (found .before .before .event-of .ensures) ∙ found .conversion .given .1) (c .before .time .ensures) (c .readings .ensures)
 
--- src/event.rt:250:1
 returns-2 : tie.Need-returns-2
-returns-2 c = 
+returns-2 c =
     let found = c .before .before in
     let start = found .before .before .before in
     c .refused-numbers .ensures ∙ shown-refused (start .args .row) (sym (found .before .before .event-of .ensures) ∙ found .conversion2 .given .1)

@@ -3,18 +3,13 @@ use mathlib.Core.Path.{_∙_, sym}
 use borrow.Author.Needs.{needs}
 use Rattle.rows.proofs.event.single.Statement.{statement}
 use Rattle.rows.proofs.event.single.Tie as tie
-use Rattle.rows.proofs.event.single.Reads as reads
-use Rattle.rows.proofs.event.single.Lts as lts
 
--- src/event.rt:120:9
 returns : tie.Need-returns
 returns c = zero-over-zero ∙ sym (pattern-nan (c .before .args .bits) (c .if1 .taken))
 
--- src/event.rt:122:5
 float-from-bits-result : tie.Need-float-from-bits-result
 float-from-bits-result c = pattern-number (c .before .args .bits) (c .if1 .left)
 
--- src/event.rt:116:1
 returns-2 : tie.Need-returns-2
 returns-2 c = search needs
 

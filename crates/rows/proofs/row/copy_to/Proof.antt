@@ -8,8 +8,6 @@ use Prim.Native.Nat.{_-_, _≤_}
 use mathlib.Core.Path.{_≡_, refl, _∙_}
 use Rattle.rows.proofs.row.copy_to.Statement.{statement}
 use Rattle.rows.proofs.row.copy_to.Tie as tie
-use Rattle.rows.proofs.row.copy_to.Reads as reads
-use Rattle.rows.proofs.row.copy_to.Lts as lts
 
 abbrev Inv-loop : tie.InvT-loop
 Inv-loop rows₀ at numbers k₀ rows k = (k ≤ length numbers) × (length rows ≡ length rows₀) × (rows ≡ paste rows₀ at numbers k)
@@ -17,41 +15,32 @@ Inv-loop rows₀ at numbers k₀ rows k = (k ≤ length numbers) × (length rows
 abbrev μ-loop : tie.MeasureT-loop
 μ-loop rows₀ at numbers k₀ rows k = length numbers - k
 
--- src/row.rt:132:5
 loop-holds : tie.Need-loop-holds Inv-loop μ-loop
 loop-holds c = (omega arith, refl, paste-zero (c .args .rows .now) (c .args .at) (c .args .numbers .now))
 
--- src/row.rt:133:24
 mul-rows : tie.Need-mul-rows Inv-loop μ-loop
 mul-rows c = search needs
 
--- src/row.rt:133:24
 shared-slice-read-rows : tie.Need-shared-slice-read-rows Inv-loop μ-loop
 shared-slice-read-rows c = search needs
 
--- src/row.rt:133:14
 add-rows : tie.Need-add-rows Inv-loop μ-loop
 add-rows c = omega arith
 
--- src/row.rt:133:9
 mul-rows-2 : tie.Need-mul-rows-2 Inv-loop μ-loop
 mul-rows-2 c = omega arith
 
--- src/row.rt:133:9
 slice-write-rows : tie.Need-slice-write-rows Inv-loop μ-loop
 slice-write-rows c = omega arith
 
--- src/row.rt:134:9
 add-k : tie.Need-add-k Inv-loop μ-loop
 add-k c = omega arith
 
--- src/row.rt:132:5
 loop-less : tie.Need-loop-less Inv-loop μ-loop
 loop-less c = omega arith
 
--- src/row.rt:132:5
 loop-again : tie.Need-loop-again Inv-loop μ-loop
-loop-again c = 
+loop-again c =
     let at-loop = c .before .before in
     let start = at-loop .before .args in
     let k = at-loop .loop .k in (
@@ -60,13 +49,11 @@ loop-again c =
       rw (add-one k, at-loop .loop .inv .2) (paste-suc (start .rows .now) (start .at) (start .numbers .now) k 0 (omega arith) (omega arith)),
     )
 
--- src/row.rt:127:1
 same-length : tie.Need-same-length Inv-loop μ-loop
 same-length c = search needs
 
--- src/row.rt:127:1
 returns : tie.Need-returns Inv-loop μ-loop
-returns c = 
+returns c =
     let start = c .before .before .args in
     c .before .loop .inv .2 ∙ paste-all (start .rows .now) (start .at) (start .numbers .now) (c .before .loop .k) (omega arith) (omega arith) (omega arith)
 

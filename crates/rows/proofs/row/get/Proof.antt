@@ -6,144 +6,108 @@ use Rattle.rows.specs.Row.{rowFrom}
 use borrow.Author.Needs.{needs}
 use Rattle.rows.proofs.row.get.Statement.{statement}
 use Rattle.rows.proofs.row.get.Tie as tie
-use Rattle.rows.proofs.row.get.Reads as reads
-use Rattle.rows.proofs.row.get.Lts as lts
-use Rattle.rows.proofs.row.room.Reads as room-reads
 
--- src/row.rt:108:12
 room-requires : tie.Need-room-requires
 room-requires c κs = search needs
 
--- src/row.rt:109:18
 mul-at : tie.Need-mul-at
 mul-at c = search needs
 
--- src/row.rt:111:19
 mul-t6 : tie.Need-mul-t6
 mul-t6 c = search needs
 
--- src/row.rt:111:19
 shared-slice-read-t8 : tie.Need-shared-slice-read-t8
 shared-slice-read-t8 c = search needs
 
--- src/row.rt:112:23
 add-t9 : tie.Need-add-t9
 add-t9 c = search needs
 
--- src/row.rt:112:18
 mul-t10 : tie.Need-mul-t10
 mul-t10 c = search needs
 
--- src/row.rt:112:18
 shared-slice-read-t12 : tie.Need-shared-slice-read-t12
 shared-slice-read-t12 c = search needs
 
--- src/row.rt:113:24
 add-t13 : tie.Need-add-t13
 add-t13 c = search needs
 
--- src/row.rt:113:19
 mul-t14 : tie.Need-mul-t14
 mul-t14 c = search needs
 
--- src/row.rt:113:19
 shared-slice-read-t16 : tie.Need-shared-slice-read-t16
 shared-slice-read-t16 c = search needs
 
--- src/row.rt:114:21
 add-t17 : tie.Need-add-t17
 add-t17 c = search needs
 
--- src/row.rt:114:16
 mul-t18 : tie.Need-mul-t18
 mul-t18 c = search needs
 
--- src/row.rt:114:16
 shared-slice-read-t20 : tie.Need-shared-slice-read-t20
 shared-slice-read-t20 c = search needs
 
--- src/row.rt:115:21
 add-t21 : tie.Need-add-t21
 add-t21 c = search needs
 
--- src/row.rt:115:16
 mul-t22 : tie.Need-mul-t22
 mul-t22 c = search needs
 
--- src/row.rt:115:16
 shared-slice-read-t24 : tie.Need-shared-slice-read-t24
 shared-slice-read-t24 c = search needs
 
--- src/row.rt:116:21
 add-t25 : tie.Need-add-t25
 add-t25 c = search needs
 
--- src/row.rt:116:16
 mul-t26 : tie.Need-mul-t26
 mul-t26 c = search needs
 
--- src/row.rt:116:16
 shared-slice-read-t28 : tie.Need-shared-slice-read-t28
 shared-slice-read-t28 c = search needs
 
--- src/row.rt:117:21
 add-t29 : tie.Need-add-t29
 add-t29 c = search needs
 
--- src/row.rt:117:16
 mul-t30 : tie.Need-mul-t30
 mul-t30 c = search needs
 
--- src/row.rt:117:16
 shared-slice-read-t32 : tie.Need-shared-slice-read-t32
 shared-slice-read-t32 c = search needs
 
--- src/row.rt:118:21
 add-t33 : tie.Need-add-t33
 add-t33 c = search needs
 
--- src/row.rt:118:16
 mul-t34 : tie.Need-mul-t34
 mul-t34 c = search needs
 
--- src/row.rt:118:16
 shared-slice-read-t36 : tie.Need-shared-slice-read-t36
 shared-slice-read-t36 c = search needs
 
--- src/row.rt:119:21
 add-t37 : tie.Need-add-t37
 add-t37 c = search needs
 
--- src/row.rt:119:16
 mul-t38 : tie.Need-mul-t38
 mul-t38 c = search needs
 
--- src/row.rt:119:16
 shared-slice-read-t40 : tie.Need-shared-slice-read-t40
 shared-slice-read-t40 c = search needs
 
--- src/row.rt:120:21
 add-t41 : tie.Need-add-t41
 add-t41 c = search needs
 
--- src/row.rt:120:16
 mul-t42 : tie.Need-mul-t42
 mul-t42 c = search needs
 
--- src/row.rt:120:16
 shared-slice-read-t44 : tie.Need-shared-slice-read-t44
 shared-slice-read-t44 c = search needs
 
--- src/row.rt:110:9
 returns : tie.Need-returns
 unfolding rowFrom
-returns c = 
+returns c =
     let start = c .before .before .before .before .before .before .before .before .before .before .before .before .before in
     simp (lt-ltb (start .args .i) (length (start .args .rows .now) / 10) (omega arith))
 
--- src/row.rt:105:1
 returns-2 : tie.Need-returns-2
-returns-2 c = 
+returns-2 c =
     let start = c .before .before .before in
     simp (le-ltb (start .args .i) (length (start .args .rows .now) / 10) (omega arith))
 

@@ -2,97 +2,70 @@ use Rattle.rows.specs.Rules.{goodAs}
 use borrow.Author.Needs.{needs}
 use Rattle.rows.proofs.rules.good_as.Statement.{statement}
 use Rattle.rows.proofs.rules.good_as.Tie as tie
-use Rattle.rows.proofs.rules.good_as.Reads as reads
-use Rattle.rows.proofs.rules.good_as.Lts as lts
-use Rattle.rows.proofs.rules.is_imu_counts.Reads as is-imu-counts-reads
-use Rattle.rows.proofs.rules.is_pair.Reads as is-pair-reads
-use Rattle.rows.proofs.rules.is_pixel.Reads as is-pixel-reads
-use Rattle.rows.proofs.rules.is_timely.Reads as is-timely-reads
-use Rattle.rows.proofs.rules.is_usb_packet.Reads as is-usb-packet-reads
 
--- src/rules.rt:151:24
 enum-told : tie.Need-enum-told
 enum-told c = search needs
 
--- src/rules.rt:151:24
 is-pixel-requires : tie.Need-is-pixel-requires
 is-pixel-requires c κs = search needs
 
--- src/rules.rt:152:26
 enum-told-2 : tie.Need-enum-told-2
 enum-told-2 c = search needs
 
--- src/rules.rt:152:26
 is-pair-requires : tie.Need-is-pair-requires
 is-pair-requires c κs = search needs
 
--- src/rules.rt:153:28
 enum-told-3 : tie.Need-enum-told-3
 enum-told-3 c = search needs
 
--- src/rules.rt:153:28
 is-imu-counts-requires : tie.Need-is-imu-counts-requires
 is-imu-counts-requires c κs = search needs
 
--- src/rules.rt:154:29
 enum-told-4 : tie.Need-enum-told-4
 enum-told-4 c = search needs
 
--- src/rules.rt:154:29
 is-timely-requires : tie.Need-is-timely-requires
 is-timely-requires c κs = search needs
 
--- src/rules.rt:155:28
 enum-told-5 : tie.Need-enum-told-5
 enum-told-5 c = search needs
 
--- src/rules.rt:155:28
 is-usb-packet-requires : tie.Need-is-usb-packet-requires
 is-usb-packet-requires c κs = search needs
 
--- src/rules.rt:156:26
 enum-told-6 : tie.Need-enum-told-6
 enum-told-6 c = search needs
 
--- src/rules.rt:156:26
 is-pair-requires-2 : tie.Need-is-pair-requires-2
 is-pair-requires-2 c κs = search needs
 
--- src/rules.rt:157:24
 enum-told-7 : tie.Need-enum-told-7
 enum-told-7 c = search needs
 
--- src/rules.rt:147:1
 returns : tie.Need-returns
 unfolding goodAs
 returns c = rw (c .before .enum-told .given .1) (c .is-pixel .ensures)
 
--- src/rules.rt:147:1
 returns-2 : tie.Need-returns-2
 unfolding goodAs
 returns-2 c = rw (c .before .enum-told2 .given .1) (c .is-pair .ensures)
 
--- src/rules.rt:147:1
 returns-3 : tie.Need-returns-3
 unfolding goodAs
 returns-3 c = rw (c .before .enum-told3 .given .1) (c .is-imu-counts .ensures)
 
--- src/rules.rt:147:1
 returns-4 : tie.Need-returns-4
 unfolding goodAs
 returns-4 c = rw (c .before .enum-told4 .given .1) (c .is-timely .ensures)
 
--- src/rules.rt:147:1
 returns-5 : tie.Need-returns-5
 unfolding goodAs
 returns-5 c = rw (c .before .enum-told5 .given .1) (c .is-usb-packet .ensures)
 
--- src/rules.rt:147:1
 returns-6 : tie.Need-returns-6
 unfolding goodAs
 returns-6 c = rw (c .before .enum-told6 .given .1) (c .is-pair2 .ensures)
 
--- src/rules.rt:147:1
 returns-7 : tie.Need-returns-7
 unfolding goodAs
 returns-7 c = rw (c .enum-told7 .given .1)

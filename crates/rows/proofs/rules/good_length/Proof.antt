@@ -2,15 +2,11 @@ use borrow.Author.Tests.{eq-eqb, ne-eqb}
 use Rattle.rows.specs.Rules.{goodLength}
 use Rattle.rows.proofs.rules.good_length.Statement.{statement}
 use Rattle.rows.proofs.rules.good_length.Tie as tie
-use Rattle.rows.proofs.rules.good_length.Reads as reads
-use Rattle.rows.proofs.rules.good_length.Lts as lts
 
--- src/rules.rt:187:9
 returns : tie.Need-returns
 unfolding goodLength
 returns c = simp (ne-eqb _ _ (c .if1 .taken))
 
--- src/rules.rt:183:1
 returns-2 : tie.Need-returns-2
 unfolding goodLength
 returns-2 c = simp (eq-eqb _ _ (c .if1 .left))

@@ -1,44 +1,32 @@
 use Rattle.rows.specs.Rules.{goodAs}
 use Rattle.rows.proofs.Answered.{answered-no, answered-yes}
-use borrow.Author.Tests.{lt-ltb, le-ltb, eq-eqb, ne-eqb, not-true, not-false}
 use mathlib.Core.Path.{_∙_}
 use borrow.Author.Needs.{needs}
 use Rattle.rows.proofs.rules.is_imu_counts.Statement.{statement}
 use Rattle.rows.proofs.rules.is_imu_counts.Tie as tie
-use Rattle.rows.proofs.rules.is_imu_counts.Reads as reads
-use Rattle.rows.proofs.rules.is_imu_counts.Lts as lts
-use Rattle.rows.proofs.rules.are_below.Reads as are-below-reads
-use Rattle.rows.proofs.rules.are_unused.Reads as are-unused-reads
-use Rattle.rows.proofs.rules.is_timely.Reads as is-timely-reads
 
--- src/rules.rt:125:9
 is-timely-requires : tie.Need-is-timely-requires
 is-timely-requires c κs = search needs
 
--- src/rules.rt:126:9
 returns : tie.Need-returns
 unfolding goodAs
 returns c = simp (answered-no (c .before .is-timely .ensures) (c .if1 .taken))
 
--- src/rules.rt:128:9
 are-below-requires : tie.Need-are-below-requires
 are-below-requires c κs = search needs
 
--- src/rules.rt:129:9
 returns-2 : tie.Need-returns-2
 unfolding goodAs
-returns-2 c = 
+returns-2 c =
     let first = c .before .before in
     simp (answered-yes (first .before .is-timely .ensures) (first .if1 .left), answered-no (c .before .are-below .ensures) (c .if2 .taken))
 
--- src/rules.rt:131:5
 are-unused-requires : tie.Need-are-unused-requires
 are-unused-requires c κs = search needs
 
--- src/rules.rt:122:1
 returns-3 : tie.Need-returns-3
 unfolding goodAs
-returns-3 c = 
+returns-3 c =
     let second = c .before in
     let first = second .before .before in
     c .are-unused .ensures

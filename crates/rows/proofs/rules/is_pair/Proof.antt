@@ -1,42 +1,32 @@
 use Rattle.rows.proofs.Answered.{answered-no, answered-yes}
-use borrow.Author.Tests.{lt-ltb, le-ltb, eq-eqb, ne-eqb}
+use borrow.Author.Tests.{lt-ltb, le-ltb}
 use mathlib.Core.Path.{_∙_}
 use borrow.Author.Needs.{needs}
 use Rattle.rows.proofs.rules.is_pair.Statement.{statement}
 use Rattle.rows.proofs.rules.is_pair.Tie as tie
-use Rattle.rows.proofs.rules.is_pair.Reads as reads
-use Rattle.rows.proofs.rules.is_pair.Lts as lts
-use Rattle.rows.proofs.rules.are_unused.Reads as are-unused-reads
-use Rattle.rows.proofs.rules.is_timely.Reads as is-timely-reads
 
--- src/rules.rt:110:9
 is-timely-requires : tie.Need-is-timely-requires
 is-timely-requires c κs = search needs
 
--- src/rules.rt:111:9
 returns : tie.Need-returns
 returns c = simp (answered-no (c .before .is-timely .ensures) (c .if1 .taken))
 
--- src/rules.rt:114:9
 returns-2 : tie.Need-returns-2
-returns-2 c = 
+returns-2 c =
     let first = c .before .before in
     simp (answered-yes (first .before .is-timely .ensures) (first .if1 .left), le-ltb _ _ (c .if2 .taken))
 
--- src/rules.rt:117:9
 returns-3 : tie.Need-returns-3
-returns-3 c = 
+returns-3 c =
     let second = c .before .before in
     let first = second .before .before in
     simp (answered-yes (first .before .is-timely .ensures) (first .if1 .left), lt-ltb _ _ (second .if2 .left), le-ltb _ _ (c .if3 .taken))
 
--- src/rules.rt:119:5
 are-unused-requires : tie.Need-are-unused-requires
 are-unused-requires c κs = search needs
 
--- src/rules.rt:107:1
 returns-4 : tie.Need-returns-4
-returns-4 c = 
+returns-4 c =
     let third = c .before in
     let second = third .before .before in
     let first = second .before .before in

@@ -1,52 +1,40 @@
 use Rattle.rows.proofs.Answered.{answered-no, answered-yes}
 use Rattle.rows.specs.Rules.{goodAs}
-use borrow.Author.Tests.{lt-ltb, le-ltb, eq-eqb, ne-eqb}
+use borrow.Author.Tests.{lt-ltb, le-ltb}
 use mathlib.Core.Path.{_∙_}
 use borrow.Author.Needs.{needs}
 use Rattle.rows.proofs.rules.is_pixel.Statement.{statement}
 use Rattle.rows.proofs.rules.is_pixel.Tie as tie
-use Rattle.rows.proofs.rules.is_pixel.Reads as reads
-use Rattle.rows.proofs.rules.is_pixel.Lts as lts
-use Rattle.rows.proofs.rules.are_below.Reads as are-below-reads
-use Rattle.rows.proofs.rules.are_unused.Reads as are-unused-reads
-use Rattle.rows.proofs.rules.is_timely.Reads as is-timely-reads
 
--- src/rules.rt:94:9
 is-timely-requires : tie.Need-is-timely-requires
 is-timely-requires c κs = search needs
 
--- src/rules.rt:95:9
 returns : tie.Need-returns
 unfolding goodAs
 returns c = simp (answered-no (c .before .is-timely .ensures) (c .if1 .taken))
 
--- src/rules.rt:97:9
 are-below-requires : tie.Need-are-below-requires
 are-below-requires c κs = search needs
 
--- src/rules.rt:98:9
 returns-2 : tie.Need-returns-2
 unfolding goodAs
-returns-2 c = 
+returns-2 c =
     let first = c .before .before in
     simp (answered-yes (first .before .is-timely .ensures) (first .if1 .left), answered-no (c .before .are-below .ensures) (c .if2 .taken))
 
--- src/rules.rt:101:9
 returns-3 : tie.Need-returns-3
 unfolding goodAs
-returns-3 c = 
+returns-3 c =
     let second = c .before .before in
     let first = second .before .before in
     simp (answered-yes (first .before .is-timely .ensures) (first .if1 .left), answered-yes (second .before .are-below .ensures) (second .if2 .left), le-ltb _ _ (c .if3 .taken))
 
--- src/rules.rt:103:5
 are-unused-requires : tie.Need-are-unused-requires
 are-unused-requires c κs = search needs
 
--- src/rules.rt:91:1
 returns-4 : tie.Need-returns-4
 unfolding goodAs
-returns-4 c = 
+returns-4 c =
     let third = c .before in
     let second = third .before .before in
     let first = second .before .before in

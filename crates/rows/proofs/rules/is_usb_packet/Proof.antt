@@ -1,42 +1,32 @@
 use Rattle.rows.specs.Row.{timeOf}
 use mathlib.Core.Path.{sym}
-use borrow.Author.Tests.{lt-ltb, le-ltb, eq-eqb, ne-eqb, not-true, not-false}
+use borrow.Author.Tests.{lt-ltb, le-ltb, eq-eqb, ne-eqb}
 use Rattle.rows.specs.Rules.{goodAs}
-use Rattle.rows.proofs.Answered.{answered-no, answered-yes}
 use borrow.Author.Tests.{lt-ltb, le-ltb, eq-eqb, ne-eqb}
 use mathlib.Core.Path.{_∙_}
 use borrow.Author.Needs.{needs}
 use Rattle.rows.proofs.rules.is_usb_packet.Statement.{statement}
 use Rattle.rows.proofs.rules.is_usb_packet.Tie as tie
-use Rattle.rows.proofs.rules.is_usb_packet.Reads as reads
-use Rattle.rows.proofs.rules.is_usb_packet.Lts as lts
-use Rattle.rows.proofs.row.Row.time.Reads as time-reads
-use Rattle.rows.proofs.rules.are_unused.Reads as are-unused-reads
 
--- src/rules.rt:136:8
 time-requires : tie.Need-time-requires
 time-requires c κs = search needs
 
--- src/rules.rt:137:9
 returns : tie.Need-returns
 unfolding goodAs
 returns c = simp (ne-eqb (timeOf (c .before .before .args .row)) 0 (λ e. c .if1 .taken (c .before .time .ensures ∙ e)))
 
--- src/rules.rt:140:9
 returns-2 : tie.Need-returns-2
 unfolding goodAs
-returns-2 c = 
+returns-2 c =
     let first = c .before .before in
     simp (eq-eqb _ _ (sym (first .before .time .ensures) ∙ first .if1 .left), le-ltb _ _ (c .if2 .taken))
 
--- src/rules.rt:142:5
 are-unused-requires : tie.Need-are-unused-requires
 are-unused-requires c κs = search needs
 
--- src/rules.rt:133:1
 returns-3 : tie.Need-returns-3
 unfolding goodAs
-returns-3 c = 
+returns-3 c =
     let second = c .before in
     let first = second .before .before in
     c .are-unused .ensures

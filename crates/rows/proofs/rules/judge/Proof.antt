@@ -1,48 +1,36 @@
 use Rattle.rows.proofs.Judged.{judged-back, judged-time}
-use borrow.Author.Tests.{lt-ltb, le-ltb, eq-eqb, ne-eqb, not-true, not-false}
+use borrow.Author.Tests.{not-true, not-false}
 use Rattle.rows.specs.Rules.{judgedOf}
 use Rattle.rows.proofs.Answered.{answered-no, answered-yes}
-use borrow.Author.Tests.{lt-ltb, le-ltb, eq-eqb, ne-eqb}
-use mathlib.Core.Path.{_∙_}
 use borrow.Author.Needs.{needs}
 use Rattle.rows.proofs.rules.judge.Statement.{statement}
 use Rattle.rows.proofs.rules.judge.Tie as tie
-use Rattle.rows.proofs.rules.judge.Reads as reads
-use Rattle.rows.proofs.rules.judge.Lts as lts
-use Rattle.rows.proofs.row.Row.time.Reads as time-reads
-use Rattle.rows.proofs.rules.good.Reads as good-reads
 
--- src/rules.rt:197:9
 good-requires : tie.Need-good-requires
 good-requires c κs = search needs
 
--- src/rules.rt:198:9
 returns : tie.Need-returns
 unfolding judgedOf
 returns c = simp (answered-no (c .before .good2 .ensures) (c .if1 .taken))
 
--- src/rules.rt:201:9
 returns-2 : tie.Need-returns-2
 unfolding judgedOf
-returns-2 c = 
+returns-2 c =
     let args = c .before .before .before .args in
     simp (answered-yes (c .before .before .good2 .ensures) (c .before .if1 .left), not-true (args .writable) (c .if2 .taken))
 
--- src/rules.rt:203:9
 time-requires : tie.Need-time-requires
 time-requires c κs = search needs
 
--- src/rules.rt:205:9
 returns-3 : tie.Need-returns-3
-returns-3 c = 
+returns-3 c =
     let second = c .before .before in
     let first = second .before in
     let args = first .before .before .args in
     judged-back (args .row) (args .last) (answered-yes (first .before .good2 .ensures) (first .if1 .left)) (not-false (args .writable) (second .if2 .left)) (c .before .time .ensures) (c .if3 .taken)
 
--- src/rules.rt:194:1
 returns-4 : tie.Need-returns-4
-returns-4 c = 
+returns-4 c =
     let second = c .before .before in
     let first = second .before in
     let args = first .before .before .args in

@@ -1,54 +1,40 @@
 use borrow.Author.Needs.{needs}
 use Rattle.rows.proofs.event.Event.readings.Statement.{statement}
 use Rattle.rows.proofs.event.Event.readings.Tie as tie
-use Rattle.rows.proofs.event.Event.readings.Reads as reads
-use Rattle.rows.proofs.event.Event.readings.Lts as lts
 
--- src/event.rt:228:66
 enum-told : tie.Need-enum-told
 enum-told c = search needs
 
--- src/event.rt:229:64
 enum-told-2 : tie.Need-enum-told-2
 enum-told-2 c = search needs
 
--- src/event.rt:230:41
 enum-known-self : tie.Need-enum-known-self
 enum-known-self c = search needs
 
--- src/event.rt:231:42
 enum-known-self-2 : tie.Need-enum-known-self-2
 enum-known-self-2 c = search needs
 
--- src/event.rt:232:75
 enum-told-3 : tie.Need-enum-told-3
 enum-told-3 c = search needs
 
--- src/event.rt:233:64
 enum-told-4 : tie.Need-enum-told-4
 enum-told-4 c = search needs
 
--- src/event.rt:224:5
 returns : tie.Need-returns
 returns c = rw (c .enum-told .given .1)
 
--- src/event.rt:224:5
 returns-2 : tie.Need-returns-2
 returns-2 c = rw (c .enum-told2 .given .1)
 
--- src/event.rt:224:5
 returns-3 : tie.Need-returns-3
 returns-3 c = rw (c .before .self .given .1)
 
--- src/event.rt:224:5
 returns-4 : tie.Need-returns-4
 returns-4 c = rw (c .before .self2 .given .1)
 
--- src/event.rt:224:5
 returns-5 : tie.Need-returns-5
 returns-5 c = rw (c .enum-told3 .given .1)
 
--- src/event.rt:224:5
 returns-6 : tie.Need-returns-6
 returns-6 c = rw (c .enum-told4 .given .1)
 

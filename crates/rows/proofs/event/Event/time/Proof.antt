@@ -1,54 +1,40 @@
 use borrow.Author.Needs.{needs}
 use Rattle.rows.proofs.event.Event.time.Statement.{statement}
 use Rattle.rows.proofs.event.Event.time.Tie as tie
-use Rattle.rows.proofs.event.Event.time.Reads as reads
-use Rattle.rows.proofs.event.Event.time.Lts as lts
 
--- src/event.rt:214:28
 enum-known-self : tie.Need-enum-known-self
 enum-known-self c = search needs
 
--- src/event.rt:215:30
 enum-known-self-2 : tie.Need-enum-known-self-2
 enum-known-self-2 c = search needs
 
--- src/event.rt:216:32
 enum-known-self-3 : tie.Need-enum-known-self-3
 enum-known-self-3 c = search needs
 
--- src/event.rt:217:33
 enum-known-self-4 : tie.Need-enum-known-self-4
 enum-known-self-4 c = search needs
 
--- src/event.rt:218:32
 enum-known-self-5 : tie.Need-enum-known-self-5
 enum-known-self-5 c = search needs
 
--- src/event.rt:219:30
 enum-known-self-6 : tie.Need-enum-known-self-6
 enum-known-self-6 c = search needs
 
--- src/event.rt:210:5
 returns : tie.Need-returns
 returns c = rw (c .before .self .given .1)
 
--- src/event.rt:210:5
 returns-2 : tie.Need-returns-2
 returns-2 c = rw (c .before .self2 .given .1)
 
--- src/event.rt:210:5
 returns-3 : tie.Need-returns-3
 returns-3 c = rw (c .before .self3 .given .1)
 
--- src/event.rt:210:5
 returns-4 : tie.Need-returns-4
 returns-4 c = rw (c .before .self4 .given .1)
 
--- src/event.rt:210:5
 returns-5 : tie.Need-returns-5
 returns-5 c = rw (c .before .self5 .given .1)
 
--- src/event.rt:210:5
 returns-6 : tie.Need-returns-6
 returns-6 c = rw (c .before .self6 .given .1)
 

@@ -3,26 +3,19 @@ use mathlib.Core.Path.{refl}
 use borrow.Author.Needs.{needs}
 use Rattle.rows.proofs.row.Row.time.Statement.{statement}
 use Rattle.rows.proofs.row.Row.time.Tie as tie
-use Rattle.rows.proofs.row.Row.time.Reads as reads
-use Rattle.rows.proofs.row.Row.time.Lts as lts
 
--- src/row.rt:93:9
 cast-result : tie.Need-cast-result
 cast-result c = search needs
 
--- src/row.rt:93:9
 mul-result : tie.Need-mul-result
 mul-result c = search needs
 
--- src/row.rt:93:41
 cast-result-2 : tie.Need-cast-result-2
 cast-result-2 c = search needs
 
--- src/row.rt:93:9
 add-result : tie.Need-add-result
 add-result c = search needs
 
--- src/row.rt:90:5
 returns : tie.Need-returns
 unfolding timeOf
 returns c = refl

@@ -2,40 +2,31 @@ use borrow.Author.Tests.{ne-eqb}
 use Rattle.rows.specs.Rules.{kindOf}
 use Rattle.rows.proofs.rules.Kind.of.Statement.{statement}
 use Rattle.rows.proofs.rules.Kind.of.Tie as tie
-use Rattle.rows.proofs.rules.Kind.of.Reads as reads
-use Rattle.rows.proofs.rules.Kind.of.Lts as lts
 
--- src/rules.rt:28:5
 returns : tie.Need-returns
 unfolding kindOf
 returns c = rw (c .match .keys1)
 
--- src/rules.rt:28:5
 returns-2 : tie.Need-returns-2
 unfolding kindOf
 returns-2 c = rw (c .match .keys2)
 
--- src/rules.rt:28:5
 returns-3 : tie.Need-returns-3
 unfolding kindOf
 returns-3 c = rw (c .match .keys3)
 
--- src/rules.rt:28:5
 returns-4 : tie.Need-returns-4
 unfolding kindOf
 returns-4 c = rw (c .match .keys4)
 
--- src/rules.rt:28:5
 returns-5 : tie.Need-returns-5
 unfolding kindOf
 returns-5 c = rw (c .match .keys5)
 
--- src/rules.rt:28:5
 returns-6 : tie.Need-returns-6
 unfolding kindOf
 returns-6 c = rw (c .match .keys6)
 
--- src/rules.rt:28:5
 returns-7 : tie.Need-returns-7
 unfolding kindOf
 returns-7 c = simp (ne-eqb _ _ (c .match .rest .1), ne-eqb _ _ (c .match .rest .0 .1), ne-eqb _ _ (c .match .rest .0 .0 .1), ne-eqb _ _ (c .match .rest .0 .0 .0 .1), ne-eqb _ _ (c .match .rest .0 .0 .0 .0 .1), ne-eqb _ _ (c .match .rest .0 .0 .0 .0 .0 .1))

@@ -1,0 +1,76 @@
+-- The rows of a list of numbers, and the numbers of a list of rows.
+use mathlib.Core.Path.{_≡_, refl, sym, _∙_, ap, ap₂}
+use Prim.Native.Nat.{ℕ, zero, suc, _+_, _-_, _*_, _/_, _%_, _≤_, _<_}
+use native.Mathlib.Omega.{arith}
+use native.Mathlib.Nat.{add-assoc}
+use mathlib.Core.List.{List, [], _∷_, _++_}
+use lib.ListN.{length, take, drop, getD, length-append, length-drop}
+use lib.Seq.{drop-cons, drop-drop, take-add, take-length, take-all, getD-append-add}
+use Rattle.rows.specs.declared.row.Row.{Row}
+use Rattle.rows.specs.Row.{numbers, flat, roomOf, rowFrom, rowsFrom, rowsOf}
+use Rattle.rows.proofs.Stored.{flat-length}
+
+-- the row at a place is what stands there
+row-numbers : (l : List ℕ) (at : ℕ) → at + 10 ≤ length l → numbers (rowFrom l at) ≡ take 10 (drop at l)
+unfolding rowFrom
+row-numbers l at h =
+    let e₁ : at + 1 ≡ suc at = omega arith in
+    let e₂ : at + 2 ≡ suc (suc at) = omega arith in
+    let e₃ : at + 3 ≡ suc (suc (suc at)) = omega arith in
+    let e₄ : at + 4 ≡ suc (suc (suc (suc at))) = omega arith in
+    let e₅ : at + 5 ≡ suc (suc (suc (suc (suc at)))) = omega arith in
+    let e₆ : at + 6 ≡ suc (suc (suc (suc (suc (suc at))))) = omega arith in
+    let e₇ : at + 7 ≡ suc (suc (suc (suc (suc (suc (suc at)))))) = omega arith in
+    let e₈ : at + 8 ≡ suc (suc (suc (suc (suc (suc (suc (suc at))))))) = omega arith in
+    let e₉ : at + 9 ≡ suc (suc (suc (suc (suc (suc (suc (suc (suc at)))))))) = omega arith in
+    rw (e₁, e₂, e₃, e₄, e₅, e₆, e₇, e₈, e₉) (chain 10 at (omega arith))
+  where
+    read : ℕ → ℕ → List ℕ
+    read zero i = []
+    read (suc k) i = getD l i 0 ∷ read k (suc i)
+
+    chain : (k i : ℕ) → i + k ≤ length l → read k i ≡ take k (drop i l)
+    chain zero i f = refl
+    chain (suc k) i f =
+        let g : i < length l = omega arith in
+        rw (drop-cons l i 0 g) (ap (λ (t : List ℕ). getD l i 0 ∷ t) (chain k (suc i) (omega arith)))
+
+-- n rows from row i on are the numbers that stand there
+flat-rows : (l : List ℕ) (n i : ℕ) → (i + n) * 10 ≤ length l → flat (rowsFrom l i n) ≡ take (n * 10) (drop (i * 10) l)
+unfolding rowsFrom
+flat-rows l zero i h = refl
+flat-rows l (suc n) i h =
+    let k : suc n * 10 ≡ 10 + n * 10 = omega arith in
+    let j : i * 10 + 10 ≡ suc i * 10 = omega arith in
+    ap₂ (λ (a b : List ℕ). a ++ b) (row-numbers l (i * 10) (omega arith)) (flat-rows l n (suc i) (omega arith))
+    ∙ ap (λ (m : ℕ). take 10 (drop (i * 10) l) ++ take (n * 10) (drop m l)) (sym j)
+    ∙ ap (λ (t : List ℕ). take 10 (drop (i * 10) l) ++ take (n * 10) t) (sym (drop-drop 10 (i * 10) l))
+    ∙ sym (take-add 10 (n * 10) (drop (i * 10) l))
+    ∙ ap (λ (m : ℕ). take m (drop (i * 10) l)) (sym k)
+
+pub flat-of-rows : (l : List ℕ) → length l % 10 ≡ 0 → flat (rowsOf l) ≡ l
+unfolding rowsOf
+flat-of-rows l h = flat-rows l (roomOf l) 0 (omega arith) ∙ take-all (roomOf l * 10) l (omega arith)
+
+-- a row in front moves the others on by one
+row-on : (r : Row) (l : List ℕ) (i : ℕ) → rowFrom (numbers r ++ l) (suc i * 10) ≡ rowFrom l (i * 10)
+unfolding rowFrom
+row-on r l i =
+    let at : suc i * 10 ≡ 10 + i * 10 = omega arith in
+    rw (at) (simp (add-assoc, getD-append-add (numbers r) l))
+
+rows-on : (r : Row) (l : List ℕ) (n i : ℕ) → rowsFrom (numbers r ++ l) (suc i) n ≡ rowsFrom l i n
+unfolding rowsFrom
+rows-on r l zero i = refl
+rows-on r l (suc n) i = ap₂ (λ (a : Row) (b : List Row). a ∷ b) (row-on r l i) (rows-on r l n (suc i))
+
+rows-flat : (rs : List Row) → rowsFrom (flat rs) 0 (length rs) ≡ rs
+unfolding rowsFrom rowFrom
+rows-flat [] = refl
+rows-flat (r ∷ rs) = ap (λ (t : List Row). r ∷ t) (rows-on r (flat rs) (length rs) 0 ∙ rows-flat rs)
+
+pub rows-of-flat : (rs : List Row) → rowsOf (flat rs) ≡ rs
+unfolding rowsOf
+rows-of-flat rs =
+    let n : length (flat rs) / 10 ≡ length rs = omega (arith, flat-length rs) in
+    ap (rowsFrom (flat rs) 0) n ∙ rows-flat rs

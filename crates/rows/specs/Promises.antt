@@ -1,0 +1,63 @@
+-- The laws of this crate, each proved in proofs/Kept.antt under the name in lower case.
+use mathlib.Core.Path.{_≡_}
+use Prim.Native.Nat.{ℕ, _%_, _≤_, _<_}
+use mathlib.Core.Bool.{Bool, true, false}
+use mathlib.Core.List.{List}
+use lib.ListN.{length}
+use lib.IntN.{pos}
+use lib.Ieee.{fin, binary32, toBits}
+use Rattle.rows.specs.declared.fault.Fault.the-variants.{BadRow}
+use Rattle.rows.specs.declared.row.Row.{Row}
+use Rattle.rows.specs.declared.event.Event.{Event}
+use Rattle.rows.specs.declared.event.Conversion.the-variants.{Turned, Refused}
+use Rattle.rows.specs.Row.{flat, timeOf, rowsOf, pixelRow, triggerRow, countsRow, singlesRow, packetRow, specialRow}
+use Rattle.rows.specs.Rules.{goodRow, goodLength, accepted, verdictFrom, Writable}
+use Rattle.rows.specs.Readings.{signedOf, accelerationOf, singleOf, Times}
+use Rattle.rows.specs.Event.{eventOf, eventTime}
+use Rattle.rows.specs.Runs.{Run, andThen}
+
+-- 01, "Rows": a row is refused 12 exactly where it is not good
+abbrev pub EventRefused : Type 0
+EventRefused = (r : Row) → ((goodRow r ≡ false) → eventOf r ≡ Refused BadRow) × ((eventOf r ≡ Refused BadRow) → goodRow r ≡ false)
+
+-- an event carries the time of its row
+abbrev pub EventTimed : Type 0
+EventTimed = (r : Row) (e : Event) → eventOf r ≡ Turned e → eventTime e ≡ timeOf r
+
+-- 01, "Rows": an acceleration times 16,384 is exactly the signed count; 0 gives +0
+abbrev pub AccelerationExact : Type 0
+AccelerationExact = (c : ℕ) → c < 65536 → Times (accelerationOf c) 16384 (signedOf c)
+
+abbrev pub AccelerationZero : Type 0
+AccelerationZero = accelerationOf 0 ≡ fin false 0 (pos 0)
+
+-- 01, "Rows": kind 4 keeps its bits. (A NaN's stand beside it in the event.)
+abbrev pub SingleBits : Type 0
+SingleBits = (n : ℕ) → n < 4294967296 → n % 2147483648 ≤ 2139095040 → toBits binary32 (singleOf n) ≡ n
+
+-- rows and their numbers are the same thing: one is found again from the other
+abbrev pub RowsOfFlat : Type 0
+RowsOfFlat = (rs : List Row) → rowsOf (flat rs) ≡ rs
+
+abbrev pub FlatOfRows : Type 0
+FlatOfRows = (l : List ℕ) → length l % 10 ≡ 0 → flat (rowsOf l) ≡ l
+
+-- a row made from values within 01's limits is good, and has the time that it was made with
+pub record MadeGood : Type 0 where
+  pub pixel : (t x y p : ℕ) → t < 17179869184 → x < 32768 → y < 32768 → p < 2 → goodRow (pixelRow t x y p) ≡ true
+  pub trigger : (t c e : ℕ) → t < 17179869184 → c < 32 → e < 2 → goodRow (triggerRow t c e) ≡ true
+  pub counts : (t ax ay az rx ry rz : ℕ) → t < 17179869184 → ax < 65536 → ay < 65536 → az < 65536 → rx < 65536 → ry < 65536 → rz < 65536
+      → goodRow (countsRow t ax ay az rx ry rz) ≡ true
+  pub singles : (t ax ay az rx ry rz k : ℕ) → t < 17179869184 → goodRow (singlesRow t ax ay az rx ry rz k) ≡ true
+  pub packet : (flag count high low : ℕ) → flag < 2 → goodRow (packetRow flag count high low) ≡ true
+  pub special : (t code content : ℕ) → t < 17179869184 → code < 128 → content < 16777216 → goodRow (specialRow t code content) ≡ true
+
+-- 01, "Refusal numbers" and "Spelling": a list passes row by row exactly where its rows are good and writable and its times do not decrease
+abbrev pub VerdictWritable : Type 0
+VerdictWritable = (writable : Row → Bool) (rs : List Row) (i last : ℕ)
+    → ((verdictFrom writable rs i last ≡ accepted) → Writable writable last rs) × (Writable writable last rs → verdictFrom writable rs i last ≡ accepted)
+
+-- one run after another: the order of grouping does not matter
+abbrev pub AndThenGrouped : Type 1
+AndThenGrouped = (S T U : Type 0) (r : Run S) (room : ℕ) (f : S → ℕ → Run T) (g : T → ℕ → Run U)
+    → andThen (andThen r room f) room g ≡ andThen r room (λ s room′. andThen (f s room′) room′ g)

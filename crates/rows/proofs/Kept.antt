@@ -23,6 +23,7 @@ use Rattle.rows.proofs.Floats as floats
 use Rattle.rows.proofs.GoodRows.{pixel-good, trigger-good, counts-good, singles-good, packet-good, special-good}
 use Rattle.rows.proofs.Judged.{accepted-writable, writable-accepted}
 use Rattle.rows.proofs.Lists as lists
+use Rattle.rows.proofs.Sequence.{prepend-then}
 
 no-event : {E : Type 0} {e : Event} → Turned e ≡ Refused BadRow → E
 no-event p = let z : _≡_ {A = ℕ} 0 1 = cc in absurd (omega arith)
@@ -99,14 +100,6 @@ verdict-writable writable rs i last = (accepted-writable writable rs i last, wri
 pub and-then-grouped : AndThenGrouped
 and-then-grouped S T U r room f g = go (r .ending)
   where
-    grouped : (rows more : List Row) (e : Ending T) → resume (rows ++ more) e room g ≡ record { rows = rows ++ resume more e (room - length rows) g .rows; ending = resume more e (room - length rows) g .ending }
-    grouped rows more (finished t) =
-        let k : room - length (rows ++ more) ≡ room - length rows - length more = omega (arith, length-append rows more) in
-        ap (λ (n : ℕ). let s : Run U = record { rows = rows ++ more ++ g t n .rows; ending = g t n .ending } in s) k
-        ∙ ap (λ (l : List Row). let s : Run U = record { rows = l; ending = g t (room - length rows - length more) .ending } in s)
-        (append-assoc rows more (g t (room - length rows - length more) .rows))
-    grouped rows more (refused q place) = refl
-
     go : (e : Ending S) → andThen (resume (r .rows) e room f) room g ≡ resume (r .rows) e room (λ s room′. andThen (f s room′) room′ g)
-    go (finished s) = grouped (r .rows) (f s (room - length (r .rows)) .rows) (f s (room - length (r .rows)) .ending)
+    go (finished s) = prepend-then (r .rows) (f s (room - length (r .rows))) room g
     go (refused q place) = refl

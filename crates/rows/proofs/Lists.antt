@@ -10,6 +10,17 @@ use Rattle.rows.specs.declared.row.Row.{Row}
 use Rattle.rows.specs.Row.{numbers, flat, roomOf, rowFrom, rowsFrom, rowsOf}
 use Rattle.rows.proofs.Stored.{flat-length}
 
+-- the k numbers from a place on, one by one
+abbrev pub reads : List ℕ → ℕ → ℕ → List ℕ
+reads l zero at = []
+reads l (suc k) at = getD l at 0 ∷ reads l k (suc at)
+
+pub reads-take : (l : List ℕ) (k at : ℕ) → at + k ≤ length l → reads l k at ≡ take k (drop at l)
+reads-take l zero at h = refl
+reads-take l (suc k) at h =
+    let g : at < length l = omega arith in
+    rw (drop-cons l at 0 g) (ap (λ (t : List ℕ). getD l at 0 ∷ t) (reads-take l k (suc at) (omega arith)))
+
 -- the row at a place is what stands there
 row-numbers : (l : List ℕ) (at : ℕ) → at + 10 ≤ length l → numbers (rowFrom l at) ≡ take 10 (drop at l)
 unfolding rowFrom
@@ -23,17 +34,7 @@ row-numbers l at h =
     let e₇ : at + 7 ≡ suc (suc (suc (suc (suc (suc (suc at)))))) = omega arith in
     let e₈ : at + 8 ≡ suc (suc (suc (suc (suc (suc (suc (suc at))))))) = omega arith in
     let e₉ : at + 9 ≡ suc (suc (suc (suc (suc (suc (suc (suc (suc at)))))))) = omega arith in
-    rw (e₁, e₂, e₃, e₄, e₅, e₆, e₇, e₈, e₉) (chain 10 at (omega arith))
-  where
-    read : ℕ → ℕ → List ℕ
-    read zero i = []
-    read (suc k) i = getD l i 0 ∷ read k (suc i)
-
-    chain : (k i : ℕ) → i + k ≤ length l → read k i ≡ take k (drop i l)
-    chain zero i f = refl
-    chain (suc k) i f =
-        let g : i < length l = omega arith in
-        rw (drop-cons l i 0 g) (ap (λ (t : List ℕ). getD l i 0 ∷ t) (chain k (suc i) (omega arith)))
+    rw (e₁, e₂, e₃, e₄, e₅, e₆, e₇, e₈, e₉) (reads-take l 10 at h)
 
 -- n rows from row i on are the numbers that stand there
 flat-rows : (l : List ℕ) (n i : ℕ) → (i + n) * 10 ≤ length l → flat (rowsFrom l i n) ≡ take (n * 10) (drop (i * 10) l)

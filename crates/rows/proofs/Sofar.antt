@@ -13,13 +13,8 @@ use Rattle.rows.specs.declared.fault.Reading.{Reading}
 use Rattle.rows.specs.declared.row.Row.{Row}
 use Rattle.rows.specs.Row.{flat, over, roomOf, PutRow}
 use Rattle.rows.specs.Runs.{Ending, finished, refused, Run, prepend, stopped, give, andThen, endingAs, runAs, answerOf, ReadAs, Did}
+use Rattle.rows.proofs.Sequence.{prepend-none, prepend-both}
 use Rattle.rows.proofs.Stored.{flat-append, flat-length, sets-append, sets-over, put-row-fits, put-row-full, put-row-length}
-
-pub prepend-none : {S : Type 0} (a : List Row) (e : Ending S) → prepend a (stopped e) ≡ record { rows = a; ending = e }
-prepend-none {S} a e = ap {B = Run S} (λ (l : List Row). record { rows = l; ending = e }) (append-nil a)
-
-pub prepend-both : {S : Type 0} (a b : List Row) (r : Run S) → prepend a (prepend b r) ≡ prepend (a ++ b) r
-prepend-both {S} a b r = ap {B = Run S} (λ (l : List Row). record { rows = l; ending = r .ending }) (sym (append-assoc a b (r .rows)))
 
 -- `rest room` is the run of what is left with so much room. n₀ rows were in `old` before the whole run, n are in `buf` now
 pub record Sofar {S : Type 0} (whole : Run S) (old : List ℕ) (n₀ : ℕ) (rest : ℕ → Run S) (n : ℕ) (buf : List ℕ) : Type 0 where

@@ -21,6 +21,10 @@ reads-take l (suc k) at h =
     let g : at < length l = omega arith in
     rw (drop-cons l at 0 g) (ap (λ (t : List ℕ). getD l at 0 ∷ t) (reads-take l k (suc at) (omega arith)))
 
+-- a part of a slice from a place to its end
+pub part-rest : (at : ℕ) (l : List ℕ) → take (length l - at) (drop at l) ≡ drop at l
+part-rest at l = take-all (length l - at) (drop at l) (omega (arith, length-drop at l))
+
 -- the row at a place is what stands there
 row-numbers : (l : List ℕ) (at : ℕ) → at + 10 ≤ length l → numbers (rowFrom l at) ≡ take 10 (drop at l)
 unfolding rowFrom

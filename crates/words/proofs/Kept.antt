@@ -1,0 +1,29 @@
+-- Each law of specs/Promises.antt, proved.
+use mathlib.Core.Path.{_∙_, ap}
+use Rattle.words.specs.Words.{Words, wordsOf}
+use Rattle.words.specs.Machine.{run}
+use Rattle.words.specs.Promises.{FieldSmall, FieldPlaced, FieldParts, WordsBack, RunTwoParts, RowsFit}
+use Rattle.words.proofs.BitFields as fields
+use Rattle.words.proofs.Bytes as bytes
+use Rattle.words.proofs.Cut.{words-join}
+use Rattle.words.proofs.TwoParts.{run-join, reading-fits}
+
+pub field-small : FieldSmall
+field-small = fields.field-small
+
+pub field-placed : FieldPlaced
+field-placed = fields.field-placed
+
+pub field-parts : FieldParts
+field-parts = fields.field-parts
+
+pub words-back : WordsBack
+words-back = bytes.words-back
+
+pub run-two-parts : RunTwoParts
+run-two-parts S m k xs ys some h s place room =
+    ap (λ (ws : Words). run m ws s place room) (words-join (m .size) some k xs ys h)
+    ∙ run-join m (wordsOf (m .size) xs) (wordsOf (m .size) ys) s place room
+
+pub rows-fit : RowsFit
+rows-fit S m ws s place room = reading-fits m ws s place room

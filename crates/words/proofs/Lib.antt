@@ -1,0 +1,6 @@
+pub mod Between
+pub mod BitFields
+pub mod Bytes
+pub mod Cut
+pub mod Kept
+pub mod TwoParts

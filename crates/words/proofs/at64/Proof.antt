@@ -1,0 +1,35 @@
+use Rattle.words.proofs.Cut.{at-end}
+use Rattle.words.specs.Words.{firstOf, wordsOf}
+use Rattle.rows.proofs.Lists.{part-rest}
+use Prim.Native.Nat.{ℕ}
+use mathlib.Core.List.{List}
+use lib.Dec.{lit<}
+use mathlib.Core.Path.{_∙_, ap}
+use borrow.Author.Needs.{needs}
+use Rattle.words.proofs.at64.Statement.{statement}
+use Rattle.words.proofs.at64.Tie as tie
+
+returns : tie.Need-returns
+returns c = at-end 8 (lit< tt) (c .before .before .args .bytes .now) (c .before .before .args .at) (c .if1 .taken)
+
+sub-first64 : tie.Need-sub-first64
+sub-first64 c = search needs
+
+part-first64-start : tie.Need-part-first64-start
+part-first64-start c = search needs
+
+part-first64-end : tie.Need-part-first64-end
+part-first64-end c = search needs
+
+first64-requires : tie.Need-first64-requires
+first64-requires c κs = search needs
+
+returns-2 : tie.Need-returns-2
+returns-2 c =
+    let start = c .before .before .before .before .args in
+    c .first64 .ensures ∙ ap (λ (l : List ℕ). firstOf (wordsOf 8 l)) (part-rest (start .at) (start .bytes .now))
+
+pub at64-spec : {M : Type 1} → statement M
+at64-spec =
+    tie.close
+    (tie.spec returns sub-first64 part-first64-start part-first64-end first64-requires returns-2)

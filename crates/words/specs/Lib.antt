@@ -1,0 +1,4 @@
+pub mod Fields
+pub mod Machine
+pub mod Promises
+pub mod Words

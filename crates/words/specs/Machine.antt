@@ -1,0 +1,49 @@
+-- A machine that reads words, over any state: what a word does, and what a run of words gives.
+use mathlib.Core.Path.{_≡_}
+use Prim.Native.Nat.{ℕ, _+_}
+use mathlib.Core.Bool.{Bool, cond}
+use mathlib.Core.List.{List}
+use Rattle.rows.specs.declared.fault.Fault.{Fault}
+use Rattle.rows.specs.declared.fault.Fault.the-variants.{Cut}
+use Rattle.rows.specs.declared.row.Row.{Row}
+use Rattle.rows.specs.Runs.{Ending, finished, refused, Run, stopped, give, andThen}
+use Rattle.words.specs.Words.{Words, word, whole, part, wordsOf}
+
+-- what one word does: the next state and the rows that it gives, or a refusal
+pub data Outcome (S : Type 0) : Type 0 where
+  next : S → List Row → Outcome S
+  fault : Fault → Outcome S
+
+pub record Machine (S : Type 0) : Type 0 where
+  -- the bytes of a word
+  pub size : ℕ
+  -- what a word does in a state, at a place
+  pub step : S → ℕ → ℕ → Outcome S
+  -- where the group in hand begins, and else the word at a place
+  pub origin : S → ℕ → ℕ
+  -- whether a group is in hand
+  pub pending : S → Bool
+
+-- the state and the place that words have led to
+pub record Reached (S : Type 0) : Type 0 where
+  pub state : S
+  pub place : ℕ
+
+-- 01, "Refusal numbers": no room is refused where the word or group begins, any other fault at the word itself
+abbrev pub after : {S : Type 0} → Outcome S → ℕ → ℕ → ℕ → (S → ℕ → Run (Reached S)) → Run (Reached S)
+after (next s new) place origin room go = give new origin room (go s)
+after (fault f) place origin room go = stopped (refused f place)
+
+-- the words one after the other; a part of a word is cut, where the word or group begins
+abbrev pub run : {S : Type 0} → Machine S → Words → S → ℕ → ℕ → Run (Reached S)
+run m (word w ws) s place room = after (m .step s place w) place (m .origin s place) room (λ s′ room′. run m ws s′ (place + m .size) room′)
+run m whole s place room = stopped (finished (record { state = s; place = place }))
+run m part s place room = stopped (refused Cut (m .origin s place))
+
+-- at the end of the input a group in hand is cut, where it begins
+abbrev pub closed : {S : Type 0} → Machine S → Reached S → ℕ → Run (Reached S)
+closed m r room = stopped (cond (m .pending (r .state)) (refused Cut (m .origin (r .state) (r .place))) (finished r))
+
+-- all the words of an input from a state and a place on
+abbrev pub reading : {S : Type 0} → Machine S → Words → S → ℕ → ℕ → Run (Reached S)
+reading m ws s place room = andThen (run m ws s place room) room (closed m)

@@ -1,0 +1,151 @@
+// Words of a stream of bytes, the low byte first, and the machine that reads them.
+//
+// A format of words is a machine over a state of its own: the size of a word, what a word does to the state and which
+// rows it gives, where the group in hand begins, and whether one is. What the machine gives for any bytes is said once,
+// in specs/Machine.antt; the invariant of the loop that runs it is proved once, in proofs/Between.antt.
+//
+//     first16(bytes), first32, first64     the word at the front of a slice, a part of one, or the end
+//     at16(bytes, at), at32, at64          the same at a place; past the end is the end
+//     put(out, at, word, size)             a word's bytes into a lent slice; where they do not fit nothing is touched
+//
+// Bit fields are written with / and % in code, and as `field` in specs/Fields.antt, whose laws hold for every position and width.
+ghost use mathlib.Core.Path.{_≡_};
+ghost use mathlib.Core.List.{[], _∷_};
+ghost use Prim.Native.Nat.{_+_, _≤_};
+ghost use lib.ListN.{length};
+ghost use lib.Seq.{sets};
+ghost use Rattle.words.specs.Words.{value, firstOf, wordsOf, nextAt, bytesOf, PutWord};
+
+// What stands in a stream of bytes: a word, a part of one before the end, or the end.
+pub enum Next {
+    Word(u64),
+    Part,
+    End,
+}
+
+fn word16(a: u8, b: u8) -> u64
+    ensures { λ r. ⌜ r ≡ value (a ∷ b ∷ []) ⌝ }
+{
+    a as u64 + 256 * b as u64
+}
+
+fn word32(a: u8, b: u8, c: u8, d: u8) -> u64
+    ensures { λ r. ⌜ r ≡ value (a ∷ b ∷ c ∷ d ∷ []) ⌝ }
+{
+    a as u64 + 256 * (b as u64 + 256 * (c as u64 + 256 * d as u64))
+}
+
+fn word64(a: u8, b: u8, c: u8, d: u8, e: u8, f: u8, g: u8, h: u8) -> u64
+    ensures { λ r. ⌜ r ≡ value (a ∷ b ∷ c ∷ d ∷ e ∷ f ∷ g ∷ h ∷ []) ⌝ }
+{
+    let low = word32(a, b, c, d);
+    let high = word32(e, f, g, h);
+    low + 4294967296 * high
+}
+
+// The word of two bytes at the front.
+pub fn first16(bytes: &[u8]) -> Next
+    ensures { λ r. ⌜ r ≡ firstOf (wordsOf 2 (now (bytes .entry))) ⌝ }
+{
+    if 2 <= bytes.len() {
+        return Next::Word(word16(bytes[0], bytes[1]));
+    }
+    if bytes.len() == 0 {
+        return Next::End;
+    }
+    Next::Part
+}
+
+// The word of four bytes at the front.
+pub fn first32(bytes: &[u8]) -> Next
+    ensures { λ r. ⌜ r ≡ firstOf (wordsOf 4 (now (bytes .entry))) ⌝ }
+{
+    if 4 <= bytes.len() {
+        return Next::Word(word32(bytes[0], bytes[1], bytes[2], bytes[3]));
+    }
+    if bytes.len() == 0 {
+        return Next::End;
+    }
+    Next::Part
+}
+
+// The word of eight bytes at the front.
+pub fn first64(bytes: &[u8]) -> Next
+    ensures { λ r. ⌜ r ≡ firstOf (wordsOf 8 (now (bytes .entry))) ⌝ }
+{
+    if 8 <= bytes.len() {
+        return Next::Word(word64(
+            bytes[0],
+            bytes[1],
+            bytes[2],
+            bytes[3],
+            bytes[4],
+            bytes[5],
+            bytes[6],
+            bytes[7],
+        ));
+    }
+    if bytes.len() == 0 {
+        return Next::End;
+    }
+    Next::Part
+}
+
+// The word of two bytes at a place.
+pub fn at16(bytes: &[u8], at: usize) -> Next
+    ensures { λ r. ⌜ r ≡ nextAt 2 (now (bytes .entry)) at ⌝ }
+{
+    if bytes.len() < at {
+        return Next::End;
+    }
+    first16(&bytes[at..])
+}
+
+// The word of four bytes at a place.
+pub fn at32(bytes: &[u8], at: usize) -> Next
+    ensures { λ r. ⌜ r ≡ nextAt 4 (now (bytes .entry)) at ⌝ }
+{
+    if bytes.len() < at {
+        return Next::End;
+    }
+    first32(&bytes[at..])
+}
+
+// The word of eight bytes at a place.
+pub fn at64(bytes: &[u8], at: usize) -> Next
+    ensures { λ r. ⌜ r ≡ nextAt 8 (now (bytes .entry)) at ⌝ }
+{
+    if bytes.len() < at {
+        return Next::End;
+    }
+    first64(&bytes[at..])
+}
+
+// Stores the lowest `size` bytes of a word from the place `at` on.
+fn store(out: &mut [u8], at: usize, word: u64, size: usize)
+    requires { ⌜ at + size ≤ length (now out) ⌝ }
+    ensures { λ _. ⌜ now (out .exit) ≡ sets (now (out .entry)) at (bytesOf size word) ⌝ }
+{
+    let mut rest = word;
+    let mut k = 0;
+    while k < size {
+        out[at + k] = (rest % 256) as u8;
+        rest = rest / 256;
+        k += 1;
+    }
+}
+
+// Writes the lowest `size` bytes of a word from the place `at` on and answers true; where they do not fit, touches
+// nothing and answers false.
+pub fn put(out: &mut [u8], at: usize, word: u64, size: usize) -> bool
+    ensures { λ r. ⌜ PutWord (now (out .entry)) at size word (now (out .exit)) r ⌝ }
+{
+    if out.len() < size {
+        return false;
+    }
+    if out.len() - size < at {
+        return false;
+    }
+    store(out, at, word, size);
+    true
+}

@@ -1,0 +1,22 @@
+// Runs cases and writes what comes back, a line each. The file stdout beside src/ says what that must be; it is written
+// from the requirement by hand.
+mod row_cases;
+mod text;
+mod word_cases;
+
+fn main() {
+    row_cases::kinds();
+    row_cases::times();
+    row_cases::pixels();
+    row_cases::triggers();
+    row_cases::imu_counts();
+    row_cases::imu_singles();
+    row_cases::usb_packets();
+    row_cases::specials();
+    row_cases::lengths();
+    row_cases::readings();
+    row_cases::buffers();
+    row_cases::judgements();
+    word_cases::reads();
+    word_cases::puts();
+}

@@ -1,0 +1,41 @@
+/* Fryskelom: events of an event camera's recording, read and written by a proved library.
+ *
+ * A buffer passes as a pointer and the number of its elements. No pointer is null, also where the number is 0, and no two
+ * buffers of one call overlap; what a call does otherwise is not promised. Refusals have the numbers of the README's table. */
+#ifndef FRYSKELOM_H
+#define FRYSKELOM_H
+
+#include <stddef.h>
+#include <stdint.h>
+
+#ifdef __cplusplus
+extern "C" {
+#endif
+
+/* A reader's answer. refusal 0: finished, and place is 0. Else rows are those finished before the fault, place the byte where it lies. */
+typedef struct {
+    uint64_t refusal, rows, place;
+} fry_reading;
+
+/* A writer's answer. refusal 0: count words were written. Else count is the index of the first bad row. */
+typedef struct {
+    uint64_t refusal, count;
+} fry_writing;
+
+/* The event of a row: its kind, its time in microseconds, the row's own seven numbers, and for an IMU the readings
+ * (acceleration X, Y, Z in g, rotation X, Y, Z in degrees a second, temperature), +0 where there are none.
+ * Refused: all else is 0. A NaN's payload stands in data alone. */
+typedef struct {
+    uint64_t refusal, kind, time;
+    uint32_t data[7];
+    float readings[7];
+} fry_event;
+
+/* The event of a row of ten numbers; a length other than 10 is refused 13, a row that is not good 12. */
+fry_event fry_event_of(const uint32_t *row, size_t len);
+
+#ifdef __cplusplus
+}
+#endif
+
+#endif

@@ -25,7 +25,7 @@ fn row(numbers: [u32; 10]) {
     line(b":", event.refusal);
 }
 
-pub fn kinds() {
+pub(crate) fn kinds() {
     row([0, 0, 0, 0, 0, 0, 0, 0, 0, 0]);
     row([1, 0, 0, 0, 0, 0, 0, 0, 0, 0]);
     row([2, 0, 0, 0, 0, 0, 0, 0, 0, 0]);
@@ -36,14 +36,14 @@ pub fn kinds() {
     row([7, 0, 0, 0, 0, 0, 0, 0, 0, 0]);
 }
 
-pub fn times() {
+pub(crate) fn times() {
     row([1, 4294967295, 3, 0, 0, 0, 0, 0, 0, 0]);
     row([1, 0, 4, 0, 0, 0, 0, 0, 0, 0]);
     row([4, 4294967295, 3, 0, 0, 0, 0, 0, 0, 0]);
     row([4, 0, 4, 0, 0, 0, 0, 0, 0, 0]);
 }
 
-pub fn pixels() {
+pub(crate) fn pixels() {
     row([1, 66, 0, 32767, 32767, 1, 0, 0, 0, 0]);
     row([1, 66, 0, 32768, 3, 1, 0, 0, 0, 0]);
     row([1, 66, 0, 5, 32768, 1, 0, 0, 0, 0]);
@@ -52,25 +52,36 @@ pub fn pixels() {
     row([1, 66, 0, 5, 3, 1, 0, 0, 0, 1]);
 }
 
-pub fn triggers() {
+pub(crate) fn triggers() {
     row([2, 64, 0, 31, 1, 0, 0, 0, 0, 0]);
     row([2, 64, 0, 32, 1, 0, 0, 0, 0, 0]);
     row([2, 64, 0, 6, 2, 0, 0, 0, 0, 0]);
     row([2, 64, 0, 6, 1, 1, 0, 0, 0, 0]);
 }
 
-pub fn imu_counts() {
+pub(crate) fn imu_counts() {
     row([3, 64, 0, 65535, 65535, 65535, 65535, 65535, 65535, 0]);
     row([3, 64, 0, 65536, 0, 0, 0, 0, 0, 0]);
     row([3, 64, 0, 0, 0, 0, 0, 0, 65536, 0]);
     row([3, 64, 0, 0, 0, 0, 0, 0, 0, 1]);
 }
 
-pub fn imu_singles() {
-    row([4, 64, 0, 4294967295, 4294967295, 4294967295, 4294967295, 4294967295, 4294967295, 4294967295]);
+pub(crate) fn imu_singles() {
+    row([
+        4,
+        64,
+        0,
+        4294967295,
+        4294967295,
+        4294967295,
+        4294967295,
+        4294967295,
+        4294967295,
+        4294967295,
+    ]);
 }
 
-pub fn usb_packets() {
+pub(crate) fn usb_packets() {
     row([5, 0, 0, 1, 4294967295, 4294967295, 4294967295, 0, 0, 0]);
     row([5, 1, 0, 1, 0, 0, 0, 0, 0, 0]);
     row([5, 0, 1, 1, 0, 0, 0, 0, 0, 0]);
@@ -78,7 +89,7 @@ pub fn usb_packets() {
     row([5, 0, 0, 1, 0, 0, 0, 1, 0, 0]);
 }
 
-pub fn specials() {
+pub(crate) fn specials() {
     row([6, 64, 0, 127, 16777215, 0, 0, 0, 0, 0]);
     row([6, 64, 0, 128, 0, 0, 0, 0, 0, 0]);
     row([6, 64, 0, 1, 16777216, 0, 0, 0, 0, 0]);
@@ -86,7 +97,7 @@ pub fn specials() {
 }
 
 // An event asked of other than ten numbers.
-pub fn lengths() {
+pub(crate) fn lengths() {
     let nine = rows::event_numbers(&[1, 0, 0, 0, 0, 0, 0, 0, 0]);
     line(b"nine numbers:", nine.refusal);
     let eleven = rows::event_numbers(&[1, 0, 0, 0, 0, 0, 0, 0, 0, 0, 0]);
@@ -103,7 +114,7 @@ fn reading(count: u16) {
 }
 
 // A count's acceleration and rotation, as the bits of singles.
-pub fn readings() {
+pub(crate) fn readings() {
     reading(0);
     reading(1);
     reading(131);
@@ -122,14 +133,20 @@ fn answer(fits: bool) -> u64 {
 }
 
 // Row 1 of a buffer of 29 numbers, which has room for two, and row 2, for which there is none.
-pub fn buffers() {
+pub(crate) fn buffers() {
     let mut buffer = [7u32; 29];
     line(b"room of 29:", rows::room(&buffer) as u64);
-    line(b"row 2 is put:", answer(rows::put(&mut buffer, 2, Row::pixel(66, 5, 3, 1))));
+    line(
+        b"row 2 is put:",
+        answer(rows::put(&mut buffer, 2, Row::pixel(66, 5, 3, 1))),
+    );
     say(b"number 20 is then");
     number32(buffer[20]);
     say(b"\n");
-    line(b"row 1 is put:", answer(rows::put(&mut buffer, 1, Row::pixel(4294967297, 5, 3, 1))));
+    line(
+        b"row 1 is put:",
+        answer(rows::put(&mut buffer, 1, Row::pixel(4294967297, 5, 3, 1))),
+    );
     say(b"numbers 9 to 20:");
     number32(buffer[9]);
     number32(buffer[10]);
@@ -165,10 +182,15 @@ fn judged(name: &[u8], row: Row, writable: bool, last: u64) {
 }
 
 // What a writer asks of a row after a last time.
-pub fn judgements() {
+pub(crate) fn judgements() {
     judged(b"equal time:", Row::trigger(64, 6, 1), true, 64);
     judged(b"earlier time:", Row::trigger(63, 6, 1), true, 64);
     judged(b"unwritable:", Row::trigger(64, 6, 1), false, 0);
-    judged(b"unwritable and earlier:", Row::trigger(63, 6, 1), false, 64);
+    judged(
+        b"unwritable and earlier:",
+        Row::trigger(63, 6, 1),
+        false,
+        64,
+    );
     judged(b"bad and earlier:", Row::trigger(63, 32, 1), true, 64);
 }

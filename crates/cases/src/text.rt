@@ -1,25 +1,25 @@
 // Lines of text on standard output.
 use libc::STDOUT_FILENO;
 
-pub fn say(text: &[u8]) {
+pub(crate) fn say(text: &[u8]) {
     io::write_all(STDOUT_FILENO, text);
 }
 
-pub fn number(n: u64) {
+pub(crate) fn number(n: u64) {
     say(b" ");
     io::print_decimal(STDOUT_FILENO, n);
 }
 
-pub fn number32(n: u32) {
+pub(crate) fn number32(n: u32) {
     number(n as u64);
 }
 
-pub fn number8(n: u8) {
+pub(crate) fn number8(n: u8) {
     number(n as u64);
 }
 
 // A name, a number and the end of a line.
-pub fn line(name: &[u8], n: u64) {
+pub(crate) fn line(name: &[u8], n: u64) {
     say(name);
     number(n);
     say(b"\n");
@@ -34,7 +34,7 @@ fn bits_of(x: f32) -> u32 {
 }
 
 // A single as its eight hexadecimal digits.
-pub fn single(x: f32) {
+pub(crate) fn single(x: f32) {
     say(b" ");
     io::print_hex(STDOUT_FILENO, bits_of(x) as u64, 8);
 }

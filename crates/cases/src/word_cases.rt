@@ -18,7 +18,7 @@ fn next(name: &[u8], next: Next) {
     }
 }
 
-pub fn reads() {
+pub(crate) fn reads() {
     let bytes = [1u8, 128, 2, 96, 3, 0, 5, 40, 255];
     next(b"16 at 0:", words::at16(&bytes, 0));
     next(b"16 at 7:", words::at16(&bytes, 7));
@@ -50,7 +50,7 @@ fn put(at: usize, word: u64, size: usize) {
     say(b"\n");
 }
 
-pub fn puts() {
+pub(crate) fn puts() {
     put(0, 32769, 2);
     put(3, 32769, 2);
     put(4, 32769, 2);

@@ -4,7 +4,6 @@
 // length; the pointer is never null, and buffers do not overlap.
 ghost use mathlib.Core.Path.{_≡_};
 ghost use Rattle.rows.specs.Event.{eventNumbers};
-
 use rows::EventNumbers;
 
 // The event of a row of ten numbers.

@@ -143,7 +143,7 @@ fn is_usb_packet(row: Row) -> bool
 }
 
 // Whether a row keeps the rules of a kind.
-pub fn good_as(kind: Kind, row: Row) -> bool
+fn good_as(kind: Kind, row: Row) -> bool
     ensures { λ r. ⌜ r ≡ goodAs kind row ⌝ }
 {
     match kind {

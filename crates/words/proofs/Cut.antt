@@ -9,7 +9,7 @@ use lib.ListN.{length, take, drop, length-drop, length-append}
 use lib.Seq.{drop-drop, take-append-le, drop-append-le}
 use lib.Dec.{eqb, ltb}
 use borrow.Author.Tests.{eq-eqb, ne-eqb, lt-ltb, le-ltb, eqb-true, eqb-false, ltb-true, ltb-false}
-use Rattle.rows.proofs.Lists.{reads, reads-take}
+use Rattle.rows.proofs.Lists.{reads, reads-take, part-rest}
 use Rattle.words.specs.declared.Next.{Next}
 use Rattle.words.specs.declared.Next.the-variants.{Word, Part, End}
 use Rattle.words.specs.Words.{value, Words, word, whole, part, firstOf, cutBy, wordsOf, nextAt}
@@ -119,3 +119,7 @@ module _ (size : ℕ) (some : 0 < size) where
 -- nothing stands past the end
 pub at-end : (size : ℕ) → 0 < size → (l : List ℕ) (at : ℕ) → length l < at → End ≡ nextAt size l at
 at-end size some l at h = first-end size some (drop at l) (omega (arith, length-drop at l))
+
+-- what stands at the front of a part that begins at a place stands at the place
+pub part-next : (size : ℕ) (l : List ℕ) (at : ℕ) {r : Next} → r ≡ firstOf (wordsOf size (take (length l - at) (drop at l))) → r ≡ nextAt size l at
+part-next size l at e = e ∙ ap (λ (k : List ℕ). firstOf (wordsOf size k)) (part-rest at l)

@@ -1,8 +1,5 @@
 //! The row rules and the readings of an IMU.
 
-/// What is expected of a row: refusal, kind, time, data, bits of the readings.
-pub type Expected = (u64, u64, u64, [u32; 7], [u32; 7]);
-
 const TIMES: u64 = 1 << 34;
 
 /// For each kind 1 to 6 the number of values that each of its seven data numbers may take, from 0 on.

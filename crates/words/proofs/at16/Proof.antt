@@ -1,10 +1,5 @@
-use Rattle.words.proofs.Cut.{at-end}
-use Rattle.words.specs.Words.{firstOf, wordsOf}
-use Rattle.rows.proofs.Lists.{part-rest}
-use Prim.Native.Nat.{ℕ}
-use mathlib.Core.List.{List}
+use Rattle.words.proofs.Cut.{at-end, part-next}
 use lib.Dec.{lit<}
-use mathlib.Core.Path.{_∙_, ap}
 use borrow.Author.Needs.{needs}
 use Rattle.words.proofs.at16.Statement.{statement}
 use Rattle.words.proofs.at16.Tie as tie
@@ -27,7 +22,7 @@ first16-requires c κs = search needs
 returns-2 : tie.Need-returns-2
 returns-2 c =
     let start = c .before .before .before .before .args in
-    c .first16 .ensures ∙ ap (λ (l : List ℕ). firstOf (wordsOf 2 l)) (part-rest (start .at) (start .bytes .now))
+    part-next 2 (start .bytes .now) (start .at) (c .first16 .ensures)
 
 pub at16-spec : {M : Type 1} → statement M
 at16-spec =

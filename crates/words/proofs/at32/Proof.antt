@@ -1,10 +1,5 @@
-use Rattle.words.proofs.Cut.{at-end}
-use Rattle.words.specs.Words.{firstOf, wordsOf}
-use Rattle.rows.proofs.Lists.{part-rest}
-use Prim.Native.Nat.{ℕ}
-use mathlib.Core.List.{List}
+use Rattle.words.proofs.Cut.{at-end, part-next}
 use lib.Dec.{lit<}
-use mathlib.Core.Path.{_∙_, ap}
 use borrow.Author.Needs.{needs}
 use Rattle.words.proofs.at32.Statement.{statement}
 use Rattle.words.proofs.at32.Tie as tie
@@ -27,7 +22,7 @@ first32-requires c κs = search needs
 returns-2 : tie.Need-returns-2
 returns-2 c =
     let start = c .before .before .before .before .args in
-    c .first32 .ensures ∙ ap (λ (l : List ℕ). firstOf (wordsOf 4 l)) (part-rest (start .at) (start .bytes .now))
+    part-next 4 (start .bytes .now) (start .at) (c .first32 .ensures)
 
 pub at32-spec : {M : Type 1} → statement M
 at32-spec =

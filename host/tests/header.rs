@@ -1,0 +1,58 @@
+//! `include/fryskelom.h` as a C program sees it: the program is compiled with the header, linked with the library and run.
+use std::path::Path;
+use std::process::Command;
+
+const PROGRAM: &str = r#"
+#include "fryskelom.h"
+#include <inttypes.h>
+#include <stdio.h>
+#include <string.h>
+
+static void show(const uint32_t *row, size_t len) {
+    fry_event e = fry_event_of(row, len);
+    printf("%" PRIu64 " %" PRIu64 " %" PRIu64, e.refusal, e.kind, e.time);
+    for (int i = 0; i < 7; i++) printf(" %" PRIu32, e.data[i]);
+    for (int i = 0; i < 7; i++) {
+        uint32_t bits;
+        memcpy(&bits, &e.readings[i], 4);
+        printf(" %08" PRIx32, bits);
+    }
+    printf("\n");
+}
+
+int main(void) {
+    const uint32_t imu[10] = {3, 7, 1, 16384, 32768, 0, 131, 65405, 262, 0};
+    const uint32_t bad[10] = {2, 7, 1, 32, 1, 0, 0, 0, 0, 0};
+    show(imu, 10);
+    show(bad, 10);
+    show(imu, 9);
+    return sizeof(fry_reading) == 24 && sizeof(fry_writing) == 16 ? 0 : 1;
+}
+"#;
+
+const EXPECTED: &str = "\
+0 3 4294967303 16384 32768 0 131 65405 262 0 3f800000 c0000000 00000000 3f800000 bf800000 40000000 00000000
+12 0 0 0 0 0 0 0 0 0 00000000 00000000 00000000 00000000 00000000 00000000 00000000
+13 0 0 0 0 0 0 0 0 0 00000000 00000000 00000000 00000000 00000000 00000000 00000000
+";
+
+#[test]
+fn a_c_program_sees_the_same() {
+    let root = Path::new(env!("CARGO_MANIFEST_DIR")).parent().expect("host/ stands in the repository");
+    let folder = Path::new(env!("CARGO_TARGET_TMPDIR"));
+    let (source, program) = (folder.join("header.c"), folder.join("header"));
+    std::fs::write(&source, PROGRAM).expect("a folder for the C program");
+    let compiled = Command::new("cc")
+        .args(["-std=c99", "-Wall", "-Wextra", "-Werror", "-pedantic", "-I"])
+        .arg(root.join("include"))
+        .arg(&source)
+        .arg(root.join("target/staticlib/libfryskelom.a"))
+        .arg("-o")
+        .arg(&program)
+        .status()
+        .expect("a C compiler, which linking Rust programs needs too");
+    assert!(compiled.success());
+    let ran = Command::new(&program).output().expect("the C program");
+    assert!(ran.status.success());
+    assert_eq!(String::from_utf8_lossy(&ran.stdout), EXPECTED);
+}

@@ -1,15 +1,15 @@
 -- What the row rules say of a row that keeps them, and which rows keep them.
-use mathlib.Core.Path.{_≡_, refl, sym, _∙_, ap}
-use Prim.Native.Nat.{ℕ, _+_, _*_, _/_, _%_, _≤_, _<_}
+use mathlib.Core.Path.{_≡_, refl}
+use Prim.Native.Nat.{ℕ, _+_, _<_}
 use native.Mathlib.Omega.{arith}
 use mathlib.Core.Bool.{Bool, true, false, _&&_}
-use mathlib.Core.List.{List, [], _∷_}
+use mathlib.Core.List.{List, [], _∷_, _++_}
 use lib.Dec.{ltb}
 use borrow.Author.Tests.{lt-ltb, ltb-true}
 use Rattle.rows.specs.declared.row.Row.{Row}
 use Rattle.rows.specs.declared.rules.Kind.the-variants.{ImuCounts}
 use Rattle.rows.specs.Row.{timeOf, timed, pixelRow, triggerRow, countsRow, singlesRow, packetRow, specialRow}
-use Rattle.rows.specs.Rules.{below, unused, timely, kindOf, goodAs, goodRow}
+use Rattle.rows.specs.Rules.{below, unused, timely, kindOf, goodAs, goodRow, AllGood}
 
 pub and-first : (x y : Bool) → x && y ≡ true → x ≡ true
 and-first true y e = refl
@@ -33,6 +33,10 @@ pub counts-below : (r : Row) → goodAs ImuCounts r ≡ true → Below 65536 (r 
 unfolding goodAs
 counts-below r e =
     below-each 65536 (r .a ∷ r .b ∷ r .c ∷ r .d ∷ r .e ∷ r .f ∷ []) (and-second (timely r) _ (and-first _ (unused (r .g ∷ [])) e))
+
+pub all-good-append : (a b : List Row) → AllGood a → AllGood b → AllGood (a ++ b)
+all-good-append [] b h g = g
+all-good-append (r ∷ a) b h g = (h .0, all-good-append a b (h .1) g)
 
 -- a row made at a time has that time
 pub timed-time : (kind time a b c d e f g : ℕ) → timeOf (timed kind time a b c d e f g) ≡ time

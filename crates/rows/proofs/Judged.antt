@@ -1,19 +1,18 @@
 -- What judging one row after another says of a list that is to be written.
 use mathlib.Core.Path.{_≡_, refl, sym, _∙_, ap, subst}
-use Prim.Native.Nat.{ℕ, zero, suc, _+_, _-_, _*_, _/_, _≤_, _<_}
+use Prim.Native.Nat.{ℕ, suc, _+_, _-_, _*_, _≤_, _<_}
 use native.Mathlib.Numerals.{add-one}
 use native.Mathlib.Omega.{arith}
-use mathlib.Core.Bool.{Bool, true, false, _&&_}
+use mathlib.Core.Bool.{Bool, true, false}
 use mathlib.Core.List.{List, [], _∷_}
-use lib.ListN.{length}
 use lib.Dec.{ltb}
-use borrow.Author.Tests.{lt-ltb, le-ltb, ltb-true, ltb-false}
+use borrow.Author.Tests.{lt-ltb, le-ltb, ltb-false}
 use Rattle.rows.specs.declared.fault.Fault.{Fault}
-use Rattle.rows.specs.declared.fault.Fault.the-variants.{BadTime, BadRow}
+use Rattle.rows.specs.declared.fault.Fault.the-variants.{BadTime}
 use Rattle.rows.specs.declared.row.Row.{Row}
 use Rattle.rows.specs.declared.rules.Judged.the-variants.{Time, Refused}
 use Rattle.rows.specs.Row.{timeOf, roomOf, rowFrom, rowsFrom, rowsOf}
-use Rattle.rows.specs.Rules.{goodRow, goodLength, judgedOf, Verdict, accepted, refused, verdictThen, verdictFrom, verdictOf, Writable}
+use Rattle.rows.specs.Rules.{goodRow, judgedOf, accepted, refused, verdictThen, verdictFrom, Writable}
 
 -- a good row that the format can write is judged by its time t
 module _ (r : Row) {writable : Bool} {t : ℕ} (last : ℕ) (g : goodRow r ≡ true) (w : writable ≡ true) (e : t ≡ timeOf r) where

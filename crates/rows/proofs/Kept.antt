@@ -1,23 +1,19 @@
 -- Each law of specs/Promises.antt, proved.
-use mathlib.Core.Path.{_≡_, refl, sym, _∙_, ap}
+use mathlib.Core.Path.{_≡_, refl, sym, ap}
 use Prim.Native.Nat.{ℕ, _-_}
 use native.Mathlib.Omega.{arith}
 use mathlib.Core.Bool.{Bool, true, false}
-use mathlib.Core.List.{List, _++_, append-assoc}
-use lib.ListN.{length, length-append}
-use lib.IntN.{pos}
-use lib.Ieee.{fin}
+use lib.ListN.{length}
 use Rattle.rows.specs.declared.fault.Fault.the-variants.{BadRow}
 use Rattle.rows.specs.declared.row.Row.{Row}
 use Rattle.rows.specs.declared.rules.Kind.{Kind}
 use Rattle.rows.specs.declared.rules.Kind.the-variants as kind
 use Rattle.rows.specs.declared.event.Event.{Event}
-use Rattle.rows.specs.declared.event.Conversion.{Conversion}
 use Rattle.rows.specs.declared.event.Conversion.the-variants.{Turned, Refused}
 use Rattle.rows.specs.Row.{timeOf}
 use Rattle.rows.specs.Rules.{kindOf, goodAs, goodRow}
 use Rattle.rows.specs.Event.{countsEvent, singlesEvent, eventAs, eventOf, eventTime}
-use Rattle.rows.specs.Runs.{Ending, finished, refused, Run, resume, andThen}
+use Rattle.rows.specs.Runs.{Ending, finished, refused, resume, andThen}
 use Rattle.rows.specs.Promises.{EventRefused, EventTimed, AccelerationExact, AccelerationZero, SingleBits, RowsOfFlat, FlatOfRows, MadeGood, VerdictWritable, AndThenGrouped}
 use Rattle.rows.proofs.Floats as floats
 use Rattle.rows.proofs.GoodRows.{pixel-good, trigger-good, counts-good, singles-good, packet-good, special-good}

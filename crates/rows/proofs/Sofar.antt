@@ -1,9 +1,9 @@
 -- The invariant of every loop that writes rows: the whole run is the rows written so far, and then the run of what is left.
-use mathlib.Core.Path.{_≡_, refl, sym, _∙_, ap, ap₂, subst}
-use Prim.Native.Nat.{ℕ, zero, suc, _+_, _-_, _*_, _/_, _≤_, _<_}
+use mathlib.Core.Path.{_≡_, refl, sym, _∙_, ap, ap₂}
+use Prim.Native.Nat.{ℕ, _+_, _-_, _*_, _/_, _≤_, _<_}
 use native.Mathlib.Omega.{arith}
 use mathlib.Core.Bool.{Bool, true, false}
-use mathlib.Core.List.{List, [], _∷_, _++_, append-assoc, append-nil}
+use mathlib.Core.List.{List, [], _∷_, _++_}
 use lib.ListN.{length, length-append}
 use lib.Seq.{sets, length-sets}
 use borrow.Author.Tests.{le-leb, lt-leb}
@@ -11,10 +11,10 @@ use Rattle.rows.specs.declared.fault.Fault.{Fault}
 use Rattle.rows.specs.declared.fault.Fault.the-variants.{NoRoom}
 use Rattle.rows.specs.declared.fault.Reading.{Reading}
 use Rattle.rows.specs.declared.row.Row.{Row}
-use Rattle.rows.specs.Row.{flat, over, roomOf, PutRow}
+use Rattle.rows.specs.Row.{flat, roomOf, PutRow}
 use Rattle.rows.specs.Runs.{Ending, finished, refused, Run, prepend, stopped, give, andThen, endingAs, runAs, answerOf, ReadAs, Did}
 use Rattle.rows.proofs.Sequence.{prepend-none, prepend-both}
-use Rattle.rows.proofs.Stored.{flat-append, flat-length, sets-append, sets-over, put-row-fits, put-row-full, put-row-length}
+use Rattle.rows.proofs.Stored.{flat-append, flat-length, sets-append, sets-over, put-row-fits, put-row-full}
 
 -- `rest room` is the run of what is left with so much room. n₀ rows were in `old` before the whole run, n are in `buf` now
 pub record Sofar {S : Type 0} (whole : Run S) (old : List ℕ) (n₀ : ℕ) (rest : ℕ → Run S) (n : ℕ) (buf : List ℕ) : Type 0 where

@@ -1,6 +1,6 @@
 -- The event that a row stands for. 01, "Rows" and "Forms we want to see".
 use Prim.Native.Nat.{ℕ, _+_, _*_}
-use mathlib.Core.Bool.{Bool, cond}
+use mathlib.Core.Bool.{cond}
 use mathlib.Core.List.{List, [], _∷_}
 use lib.ListN.{length, replicate}
 use lib.Dec.{eqb}
@@ -10,7 +10,6 @@ use Rattle.rows.specs.declared.fault.Fault.the-variants.{BadRow, BadList
 use Rattle.rows.specs.declared.row.Row.{Row}
 use Rattle.rows.specs.declared.rules.Kind.{Kind}
 use Rattle.rows.specs.declared.rules.Kind.the-variants as kind
-use Rattle.rows.specs.declared.event.Patterns.{Patterns}
 use Rattle.rows.specs.declared.event.Event.{Event}
 use Rattle.rows.specs.declared.event.Event.the-variants.{Pixel, Trigger, ImuCounts, ImuSingles, UsbPacket, Special}
 use Rattle.rows.specs.declared.event.Conversion.{Conversion}

@@ -11,7 +11,7 @@ use Rattle.rows.specs.declared.row.Row.{Row}
 use Rattle.rows.specs.declared.event.Event.{Event}
 use Rattle.rows.specs.declared.event.Conversion.the-variants.{Turned, Refused}
 use Rattle.rows.specs.Row.{flat, timeOf, rowsOf, pixelRow, triggerRow, countsRow, singlesRow, packetRow, specialRow}
-use Rattle.rows.specs.Rules.{goodRow, goodLength, accepted, verdictFrom, Writable}
+use Rattle.rows.specs.Rules.{goodRow, accepted, verdictFrom, Writable}
 use Rattle.rows.specs.Readings.{signedOf, accelerationOf, singleOf, Times}
 use Rattle.rows.specs.Event.{eventOf, eventTime}
 use Rattle.rows.specs.Runs.{Run, andThen}

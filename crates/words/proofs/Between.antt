@@ -1,7 +1,6 @@
 -- The invariant of a loop that reads the words of bytes, over any machine, and how each kind of word keeps or ends it.
-use mathlib.Core.Path.{_≡_, refl, sym, _∙_, ap}
-use Prim.Native.Nat.{ℕ, zero, suc, _+_, _-_, _*_, _≤_, _<_}
-use native.Mathlib.Omega.{arith}
+use mathlib.Core.Path.{_≡_, refl, _∙_, ap}
+use Prim.Native.Nat.{ℕ, _+_, _-_, _*_, _≤_, _<_}
 use mathlib.Core.Bool.{Bool, true, false}
 use mathlib.Core.List.{List, [], _∷_}
 use lib.ListN.{length, drop}
@@ -11,11 +10,11 @@ use Rattle.rows.specs.declared.fault.Fault.the-variants.{NoRoom, Cut}
 use Rattle.rows.specs.declared.fault.Reading.the-variants.{Finished, Refused}
 use Rattle.rows.specs.declared.row.Row.{Row}
 use Rattle.rows.specs.Row.{flat, roomOf, PutRow}
-use Rattle.rows.specs.Runs.{finished, refused, Run, stopped, give, ReadAs}
+use Rattle.rows.specs.Runs.{finished, refused, Run, give, ReadAs}
 use Rattle.rows.proofs.Sequence.{give-then, give-none}
 use Rattle.rows.proofs.Sofar.{Sofar, sofar-start, sofar-as, sofar-ends, sofar-give, sofar-full, sofar-put, sofar-not-put, sofar-length, did-reads}
 use Rattle.words.specs.declared.Next.the-variants.{Word, Part, End}
-use Rattle.words.specs.Words.{Words, word, whole, part, wordsOf, nextAt}
+use Rattle.words.specs.Words.{Words, word, wordsOf, nextAt}
 use Rattle.words.specs.Machine.{next, fault, Machine, Reached, run, closed, reading}
 use Rattle.words.proofs.Cut.{end-found, part-found, word-found, word-within}
 

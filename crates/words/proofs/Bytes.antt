@@ -3,15 +3,13 @@ use mathlib.Core.Path.{_≡_, refl, sym, _∙_, ap, ap₂}
 use Prim.Native.Nat.{ℕ, zero, suc, _+_, _-_, _*_, _/_, _%_, _^_, _≤_, _<_}
 use native.Mathlib.Omega.{arith}
 use native.Mathlib.Nat.{pow-suc}
-use native.Mathlib.Numerals.{add-one}
-use mathlib.Core.Bool.{Bool, true, false}
+use mathlib.Core.Bool.{true, false}
 use mathlib.Core.List.{List, [], _∷_, _++_, append-assoc}
-use lib.ListN.{length, take, drop, length-append}
+use lib.ListN.{length, length-append}
 use lib.Seq.{sets, take-at, drop-at}
-use lib.Dec.{leb}
 use borrow.Author.Tests.{le-leb, lt-leb}
 use Rattle.rows.proofs.Stored.{sets-append}
-use Rattle.words.specs.Words.{value, Words, word, wordsOf, bytesOf, bytesOfAll, PutWord}
+use Rattle.words.specs.Words.{value, word, wordsOf, bytesOf, bytesOfAll, PutWord}
 use Rattle.words.specs.Promises.{Small, before}
 use Rattle.words.proofs.Cut.{words-one}
 

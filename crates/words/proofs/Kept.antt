@@ -2,11 +2,12 @@
 use mathlib.Core.Path.{_∙_, ap}
 use Rattle.words.specs.Words.{Words, wordsOf}
 use Rattle.words.specs.Machine.{run}
-use Rattle.words.specs.Promises.{FieldSmall, FieldPlaced, FieldParts, WordsBack, RunTwoParts, RowsFit}
+use Rattle.words.specs.Promises.{FieldSmall, FieldPlaced, FieldParts, WordsBack, RunTwoParts, RowsFit, RowsGood}
 use Rattle.words.proofs.BitFields as fields
 use Rattle.words.proofs.Bytes as bytes
 use Rattle.words.proofs.Cut.{words-join}
-use Rattle.words.proofs.TwoParts.{run-join, reading-fits}
+use Rattle.words.proofs.RowsGiven.{reading-fits, reading-good}
+use Rattle.words.proofs.TwoParts.{run-join}
 
 pub field-small : FieldSmall
 field-small = fields.field-small
@@ -27,3 +28,6 @@ run-two-parts S m k xs ys some h s place room =
 
 pub rows-fit : RowsFit
 rows-fit S m ws s place room = reading-fits m ws s place room
+
+pub rows-good : RowsGood
+rows-good S m Kept k ws s place room h = reading-good m k ws s place room h

@@ -3,4 +3,5 @@ pub mod BitFields
 pub mod Bytes
 pub mod Cut
 pub mod Kept
+pub mod RowsGiven
 pub mod TwoParts

@@ -1,18 +1,12 @@
 -- A run of words in two parts, and the room that a run takes, over any machine.
 use mathlib.Core.Path.{_≡_, refl, sym, _∙_, ap}
-use Prim.Native.Nat.{ℕ, zero, suc, _+_, _-_, _*_, _≤_, _<_}
+use Prim.Native.Nat.{ℕ, _+_, _-_}
 use native.Mathlib.Omega.{arith}
-use mathlib.Core.Bool.{Bool, true, false, cond}
-use mathlib.Core.List.{List, [], _∷_, _++_, append-nil}
-use lib.ListN.{length, length-append}
-use lib.Dec.{leb}
-use borrow.Author.Tests.{leb-true}
-use Rattle.rows.specs.declared.fault.Fault.the-variants.{NoRoom}
-use Rattle.rows.specs.declared.row.Row.{Row}
-use Rattle.rows.specs.Runs.{Ending, finished, refused, Run, prepend, stopped, give, resume, andThen}
+use lib.ListN.{length}
+use Rattle.rows.specs.Runs.{Run, andThen}
 use Rattle.rows.proofs.Sequence.{give-then, give-same}
 use Rattle.words.specs.Words.{Words, word, whole, part}
-use Rattle.words.specs.Machine.{Outcome, next, fault, Machine, Reached, after, run, closed, reading}
+use Rattle.words.specs.Machine.{Outcome, next, fault, Machine, Reached, after, run}
 use Rattle.words.proofs.Cut.{join}
 
 module _ {S : Type 0} (m : Machine S) where
@@ -37,29 +31,3 @@ module _ {S : Type 0} (m : Machine S) where
           give-same new (m .origin s place) room (λ room′. run m (join a b) s′ (place + m .size) room′) (λ room′. andThen (run m a s′ (place + m .size) room′) room′ on)
           (ih s′ (room - length new))
           ∙ sym (give-then new (m .origin s place) room (λ room′. run m a s′ (place + m .size) room′) on)
-
-  -- the rows of a run fit its room
-  run-fits : (ws : Words) (s : S) (place room : ℕ) → length (run m ws s place room .rows) ≤ room
-  run-fits whole s place room = omega arith
-  run-fits part s place room = omega arith
-  run-fits (word w ws) s place room = go (m .step s place w) (λ s′ room′. run-fits ws s′ (place + m .size) room′)
-    where
-      given : (new : List Row) (rest : Run (Reached S)) → length (rest .rows) ≤ room - length new → (t : Bool) → leb (length new) room ≡ t
-          → length (cond t (prepend new rest) (stopped (refused NoRoom (m .origin s place))) .rows) ≤ room
-      given new rest h true e = omega (arith, leb-true (length new) room e, length-append new (rest .rows))
-      given new rest h false e = omega arith
-
-      go : (o : Outcome S) → ((s′ : S) (room′ : ℕ) → length (run m ws s′ (place + m .size) room′ .rows) ≤ room′)
-          → length (after o place (m .origin s place) room (λ s′ room′. run m ws s′ (place + m .size) room′) .rows) ≤ room
-      go (fault f) ih = omega arith
-      go (next s′ new) ih = given new (run m ws s′ (place + m .size) (room - length new)) (ih s′ (room - length new)) (leb (length new) room) refl
-
-  pub reading-fits : (ws : Words) (s : S) (place room : ℕ) → length (reading m ws s place room .rows) ≤ room
-  reading-fits ws s place room = go (run m ws s place room .ending)
-    where
-      rows : List Row
-      rows = run m ws s place room .rows
-
-      go : (e : Ending (Reached S)) → length (resume rows e room (closed m) .rows) ≤ room
-      go (finished r) = omega (arith, run-fits ws s place room, length-append rows [])
-      go (refused f place′) = run-fits ws s place room

@@ -6,8 +6,9 @@ use mathlib.Core.List.{List}
 use Rattle.rows.specs.declared.fault.Fault.{Fault}
 use Rattle.rows.specs.declared.fault.Fault.the-variants.{Cut}
 use Rattle.rows.specs.declared.row.Row.{Row}
-use Rattle.rows.specs.Runs.{Ending, finished, refused, Run, stopped, give, andThen}
-use Rattle.words.specs.Words.{Words, word, whole, part, wordsOf}
+use Rattle.rows.specs.Rules.{AllGood}
+use Rattle.rows.specs.Runs.{finished, refused, Run, stopped, give, andThen}
+use Rattle.words.specs.Words.{Words, word, whole, part}
 
 -- what one word does: the next state and the rows that it gives, or a refusal
 pub data Outcome (S : Type 0) : Type 0 where
@@ -47,3 +48,7 @@ closed m r room = stopped (cond (m .pending (r .state)) (refused Cut (m .origin 
 -- all the words of an input from a state and a place on
 abbrev pub reading : {S : Type 0} → Machine S → Words → S → ℕ → ℕ → Run (Reached S)
 reading m ws s place room = andThen (run m ws s place room) room (closed m)
+
+-- a machine that keeps a property of its state gives good rows from it on
+pub record Keeps {S : Type 0} (m : Machine S) (Kept : S → Type 0) : Type 0 where
+  pub step : (s : S) (place w : ℕ) (s′ : S) (new : List Row) → Kept s → m .step s place w ≡ next s′ new → Kept s′ × AllGood new

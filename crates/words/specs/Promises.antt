@@ -3,10 +3,11 @@ use mathlib.Core.Path.{_≡_}
 use Prim.Native.Nat.{ℕ, _+_, _*_, _/_, _^_, _≤_, _<_}
 use mathlib.Core.List.{List, [], _∷_, _++_}
 use lib.ListN.{length}
-use Rattle.rows.specs.Runs.{Run, andThen}
-use Rattle.words.specs.Words.{Words, word, wordsOf, bytesOf, bytesOfAll}
+use Rattle.rows.specs.Rules.{AllGood}
+use Rattle.rows.specs.Runs.{andThen}
+use Rattle.words.specs.Words.{Words, word, wordsOf, bytesOfAll}
 use Rattle.words.specs.Fields.{field, placed}
-use Rattle.words.specs.Machine.{Machine, Reached, run, reading}
+use Rattle.words.specs.Machine.{Machine, run, reading, Keeps}
 
 -- a field is below 2^width
 abbrev pub FieldSmall : Type 0
@@ -41,3 +42,7 @@ RunTwoParts = (S : Type 0) (m : Machine S) (k : ℕ) (xs ys : List ℕ) → 0 < 
 -- no more rows are given than there is room for
 abbrev pub RowsFit : Type 1
 RowsFit = (S : Type 0) (m : Machine S) (ws : Words) (s : S) (place room : ℕ) → length (reading m ws s place room .rows) ≤ room
+
+-- a machine whose every word gives good rows gives good rows alone
+abbrev pub RowsGood : Type 1
+RowsGood = (S : Type 0) (m : Machine S) (Kept : S → Type 0) → Keeps m Kept → (ws : Words) (s : S) (place room : ℕ) → Kept s → AllGood (reading m ws s place room .rows)

@@ -1,0 +1,69 @@
+-- The rows that a machine gives: they fit the room, and are good where every word's are.
+use mathlib.Core.Path.{_≡_, refl}
+use Prim.Native.Nat.{ℕ, _+_, _-_, _≤_}
+use native.Mathlib.Omega.{arith}
+use mathlib.Core.Bool.{Bool, true, false, cond}
+use mathlib.Core.List.{List, []}
+use lib.ListN.{length, length-append}
+use lib.Dec.{leb}
+use borrow.Author.Tests.{leb-true}
+use Rattle.rows.specs.declared.fault.Fault.the-variants.{NoRoom}
+use Rattle.rows.specs.declared.row.Row.{Row}
+use Rattle.rows.specs.Rules.{AllGood}
+use Rattle.rows.specs.Runs.{Ending, finished, refused, Run, prepend, stopped, resume}
+use Rattle.rows.proofs.GoodRows.{all-good-append}
+use Rattle.words.specs.Words.{Words, word, whole, part}
+use Rattle.words.specs.Machine.{Outcome, next, fault, Machine, Reached, after, run, closed, reading, Keeps}
+
+module _ {S : Type 0} (m : Machine S) where
+  -- the rows of a run fit its room
+  run-fits : (ws : Words) (s : S) (place room : ℕ) → length (run m ws s place room .rows) ≤ room
+  run-fits whole s place room = omega arith
+  run-fits part s place room = omega arith
+  run-fits (word w ws) s place room = go (m .step s place w) (λ s′ room′. run-fits ws s′ (place + m .size) room′)
+    where
+      given : (new : List Row) (rest : Run (Reached S)) → length (rest .rows) ≤ room - length new → (t : Bool) → leb (length new) room ≡ t
+          → length (cond t (prepend new rest) (stopped (refused NoRoom (m .origin s place))) .rows) ≤ room
+      given new rest h true e = omega (arith, leb-true (length new) room e, length-append new (rest .rows))
+      given new rest h false e = omega arith
+
+      go : (o : Outcome S) → ((s′ : S) (room′ : ℕ) → length (run m ws s′ (place + m .size) room′ .rows) ≤ room′)
+          → length (after o place (m .origin s place) room (λ s′ room′. run m ws s′ (place + m .size) room′) .rows) ≤ room
+      go (fault f) ih = omega arith
+      go (next s′ new) ih = given new (run m ws s′ (place + m .size) (room - length new)) (ih s′ (room - length new)) (leb (length new) room) refl
+
+  pub reading-fits : (ws : Words) (s : S) (place room : ℕ) → length (reading m ws s place room .rows) ≤ room
+  reading-fits ws s place room = go (run m ws s place room .ending)
+    where
+      rows : List Row
+      rows = run m ws s place room .rows
+
+      go : (e : Ending (Reached S)) → length (resume rows e room (closed m) .rows) ≤ room
+      go (finished r) = omega (arith, run-fits ws s place room, length-append rows [])
+      go (refused f place′) = run-fits ws s place room
+
+  -- rows of words that each give good ones
+  module _ {Kept : S → Type 0} (k : Keeps m Kept) where
+    run-good : (ws : Words) (s : S) (place room : ℕ) → Kept s → AllGood (run m ws s place room .rows)
+    run-good whole s place room h = tt
+    run-good part s place room h = tt
+    run-good (word w ws) s place room h = go (m .step s place w) refl (λ s′ room′ h′. run-good ws s′ (place + m .size) room′ h′)
+      where
+        given : (new : List Row) (rest : Run (Reached S)) → AllGood new → AllGood (rest .rows) → (t : Bool)
+            → AllGood (cond t (prepend new rest) (stopped (refused NoRoom (m .origin s place))) .rows)
+        given new rest g f true = all-good-append new (rest .rows) g f
+        given new rest g f false = tt
+
+        go : (o : Outcome S) → m .step s place w ≡ o → ((s′ : S) (room′ : ℕ) → Kept s′ → AllGood (run m ws s′ (place + m .size) room′ .rows))
+            → AllGood (after o place (m .origin s place) room (λ s′ room′. run m ws s′ (place + m .size) room′) .rows)
+        go (fault f) e ih = tt
+        go (next s′ new) e ih =
+            given new (run m ws s′ (place + m .size) (room - length new)) (k .step s place w s′ new h e .1)
+            (ih s′ (room - length new) (k .step s place w s′ new h e .0)) (leb (length new) room)
+
+    pub reading-good : (ws : Words) (s : S) (place room : ℕ) → Kept s → AllGood (reading m ws s place room .rows)
+    reading-good ws s place room h = go (run m ws s place room .ending)
+      where
+        go : (e : Ending (Reached S)) → AllGood (resume (run m ws s place room .rows) e room (closed m) .rows)
+        go (finished r) = all-good-append (run m ws s place room .rows) [] (run-good ws s place room h) tt
+        go (refused f place′) = run-good ws s place room h

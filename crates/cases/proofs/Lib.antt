@@ -1,1 +1,2 @@
+-- Lemmas that more than one proof uses.
 pub mod Singles

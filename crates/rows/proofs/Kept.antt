@@ -3,7 +3,8 @@ use mathlib.Core.Path.{_≡_, refl, sym, ap}
 use Prim.Native.Nat.{ℕ, _-_}
 use native.Mathlib.Omega.{arith}
 use mathlib.Core.Bool.{Bool, true, false}
-use lib.ListN.{length}
+use lib.ListN.{length, drop, length-append, length-drop}
+use lib.Seq.{take-append-seam, drop-append-seam}
 use Rattle.rows.specs.declared.fault.Fault.the-variants.{BadRow}
 use Rattle.rows.specs.declared.row.Row.{Row}
 use Rattle.rows.specs.declared.rules.Kind.{Kind}
@@ -14,7 +15,7 @@ use Rattle.rows.specs.Row.{timeOf}
 use Rattle.rows.specs.Rules.{kindOf, goodAs, goodRow}
 use Rattle.rows.specs.Event.{countsEvent, singlesEvent, eventAs, eventOf, eventTime}
 use Rattle.rows.specs.Runs.{Ending, finished, refused, resume, andThen}
-use Rattle.rows.specs.Promises.{EventRefused, EventTimed, AccelerationExact, AccelerationZero, SingleBits, RowsOfFlat, FlatOfRows, MadeGood, VerdictWritable, AndThenGrouped}
+use Rattle.rows.specs.Promises.{EventRefused, EventTimed, AccelerationExact, AccelerationZero, SingleBits, RowsOfFlat, FlatOfRows, OverKept, MadeGood, VerdictWritable, AndThenGrouped}
 use Rattle.rows.proofs.Floats as floats
 use Rattle.rows.proofs.GoodRows.{pixel-good, trigger-good, counts-good, singles-good, packet-good, special-good}
 use Rattle.rows.proofs.Judged.{accepted-writable, writable-accepted}
@@ -78,6 +79,14 @@ rows-of-flat = lists.rows-of-flat
 
 pub flat-of-rows : FlatOfRows
 flat-of-rows = lists.flat-of-rows
+
+pub over-kept : OverKept
+over-kept =
+    record {
+      front = λ new old. take-append-seam new (drop (length new) old);
+      rest = λ new old. drop-append-seam new (drop (length new) old);
+      long = λ new old h. omega (arith, length-append new (drop (length new) old), length-drop (length new) old);
+    }
 
 pub made-good : MadeGood
 made-good =

@@ -3,14 +3,14 @@ use mathlib.Core.Path.{_≡_}
 use Prim.Native.Nat.{ℕ, _%_, _≤_, _<_}
 use mathlib.Core.Bool.{Bool, true, false}
 use mathlib.Core.List.{List}
-use lib.ListN.{length}
+use lib.ListN.{length, take, drop}
 use lib.IntN.{pos}
 use lib.Ieee.{fin, binary32, toBits}
 use Rattle.rows.specs.declared.fault.Fault.the-variants.{BadRow}
 use Rattle.rows.specs.declared.row.Row.{Row}
 use Rattle.rows.specs.declared.event.Event.{Event}
 use Rattle.rows.specs.declared.event.Conversion.the-variants.{Turned, Refused}
-use Rattle.rows.specs.Row.{flat, timeOf, rowsOf, pixelRow, triggerRow, countsRow, singlesRow, packetRow, specialRow}
+use Rattle.rows.specs.Row.{flat, over, timeOf, rowsOf, pixelRow, triggerRow, countsRow, singlesRow, packetRow, specialRow}
 use Rattle.rows.specs.Rules.{goodRow, accepted, verdictFrom, Writable}
 use Rattle.rows.specs.Readings.{signedOf, accelerationOf, singleOf, Times}
 use Rattle.rows.specs.Event.{eventOf, eventTime}
@@ -41,6 +41,12 @@ RowsOfFlat = (rs : List Row) → rowsOf (flat rs) ≡ rs
 
 abbrev pub FlatOfRows : Type 0
 FlatOfRows = (l : List ℕ) → length l % 10 ≡ 0 → flat (rowsOf l) ≡ l
+
+-- 01, "Refusal numbers": of a buffer that numbers were written over, the front is they, and nothing past them is touched
+pub record OverKept : Type 0 where
+  pub front : (new old : List ℕ) → take (length new) (over new old) ≡ new
+  pub rest : (new old : List ℕ) → drop (length new) (over new old) ≡ drop (length new) old
+  pub long : (new old : List ℕ) → length new ≤ length old → length (over new old) ≡ length old
 
 -- a row made from values within 01's limits is good, and has the time that it was made with
 pub record MadeGood : Type 0 where

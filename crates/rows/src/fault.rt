@@ -92,6 +92,7 @@ impl Fault {
 }
 
 impl Reading {
+    // The answer as numbers.
     pub fn numbers(self) -> ReadingNumbers
         ensures { λ r. ⌜ r ≡ readingNumbers self ⌝ }
     {
@@ -111,6 +112,7 @@ impl Reading {
 }
 
 impl Writing {
+    // The answer as numbers.
     pub fn numbers(self) -> WritingNumbers
         ensures { λ r. ⌜ r ≡ writingNumbers self ⌝ }
     {

@@ -13,6 +13,7 @@
 // Each function's contract is an equation with a definition of specs/; specs/Promises.antt has the laws.
 mod event;
 mod fault;
+mod readings;
 mod row;
 mod rules;
 
@@ -20,16 +21,16 @@ pub use event::Conversion;
 pub use event::Event;
 pub use event::EventNumbers;
 pub use event::Patterns;
-pub use event::acceleration;
 pub use event::event_numbers;
 pub use event::event_of;
-pub use event::rotation;
-pub use event::single;
 pub use fault::Fault;
 pub use fault::Reading;
 pub use fault::ReadingNumbers;
 pub use fault::Writing;
 pub use fault::WritingNumbers;
+pub use readings::acceleration;
+pub use readings::rotation;
+pub use readings::single;
 pub use row::Row;
 pub use row::RowAt;
 pub use row::get;

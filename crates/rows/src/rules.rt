@@ -24,6 +24,7 @@ pub enum Judged {
 }
 
 impl Kind {
+    // The kind that a row's first number names.
     pub fn of(number: u32) -> Kind
         ensures { λ r. ⌜ r ≡ kindOf number ⌝ }
     {

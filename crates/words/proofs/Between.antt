@@ -10,26 +10,22 @@ use Rattle.rows.specs.declared.fault.Fault.the-variants.{NoRoom, Cut}
 use Rattle.rows.specs.declared.fault.Reading.the-variants.{Finished, Refused}
 use Rattle.rows.specs.declared.row.Row.{Row}
 use Rattle.rows.specs.Row.{flat, roomOf, PutRow}
-use Rattle.rows.specs.Runs.{finished, refused, Run, give, ReadAs}
+use Rattle.rows.specs.Runs.{finished, refused, give, ReadAs}
 use Rattle.rows.proofs.Sequence.{give-then, give-none}
 use Rattle.rows.proofs.Sofar.{Sofar, sofar-start, sofar-as, sofar-ends, sofar-give, sofar-full, sofar-put, sofar-not-put, sofar-length, did-reads}
 use Rattle.words.specs.declared.Next.the-variants.{Word, Part, End}
 use Rattle.words.specs.Words.{Words, word, wordsOf, nextAt}
-use Rattle.words.specs.Machine.{next, fault, Machine, Reached, run, closed, reading}
+use Rattle.words.specs.Machine.{next, fault, Machine, run, closed, reading, readFrom}
 use Rattle.words.proofs.Cut.{end-found, part-found, word-found, word-within}
 
 module _ {S : Type 0} (m : Machine S) (bytes : List ℕ) where
-  -- the run of the bytes from `at` on in the state s, with so much room
-  abbrev pub readFrom : S → ℕ → ℕ → Run (Reached S)
-  readFrom s at room = reading m (wordsOf (m .size) (drop at bytes)) s at room
-
   -- the loop began at `from` in s₀ on the buffer `old`; it is at `at` in s, and n rows are in `buf`
   pub record Between (s₀ : S) (from : ℕ) (old : List ℕ) (s : S) (at n : ℕ) (buf : List ℕ) : Type 0 where
-    pub sofar : Sofar (readFrom s₀ from (roomOf old)) old 0 (readFrom s at) n buf
+    pub sofar : Sofar (readFrom m bytes s₀ from (roomOf old)) old 0 (readFrom m bytes s at) n buf
     pub within : at ≤ length bytes
 
   pub between-start : (s₀ : S) (from : ℕ) (old : List ℕ) → from ≤ length bytes → Between s₀ from old s₀ from 0 old
-  between-start s₀ from old h = record { sofar = sofar-start (readFrom s₀ from) old; within = h }
+  between-start s₀ from old h = record { sofar = sofar-start (readFrom m bytes s₀ from) old; within = h }
 
 module _ {S : Type 0} {m : Machine S} {bytes : List ℕ} {s₀ : S} {from : ℕ} {old : List ℕ} {s : S} {at n : ℕ} {buf : List ℕ} (h : Between m bytes s₀ from old s at n buf) where
   pub between-length : length buf ≡ length old

@@ -1,3 +1,4 @@
+-- Lemmas, and the laws proved (Kept).
 pub mod Between
 pub mod BitFields
 pub mod Bytes

@@ -1,3 +1,4 @@
+-- Definitions that the contracts cite, and the laws.
 pub mod Fields
 pub mod Machine
 pub mod Promises

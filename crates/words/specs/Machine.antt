@@ -3,12 +3,13 @@ use mathlib.Core.Path.{_≡_}
 use Prim.Native.Nat.{ℕ, _+_}
 use mathlib.Core.Bool.{Bool, cond}
 use mathlib.Core.List.{List}
+use lib.ListN.{drop}
 use Rattle.rows.specs.declared.fault.Fault.{Fault}
 use Rattle.rows.specs.declared.fault.Fault.the-variants.{Cut}
 use Rattle.rows.specs.declared.row.Row.{Row}
 use Rattle.rows.specs.Rules.{AllGood}
 use Rattle.rows.specs.Runs.{finished, refused, Run, stopped, give, andThen}
-use Rattle.words.specs.Words.{Words, word, whole, part}
+use Rattle.words.specs.Words.{Words, word, whole, part, wordsOf}
 
 -- what one word does: the next state and the rows that it gives, or a refusal
 pub data Outcome (S : Type 0) : Type 0 where
@@ -48,6 +49,10 @@ closed m r room = stopped (cond (m .pending (r .state)) (refused Cut (m .origin 
 -- all the words of an input from a state and a place on
 abbrev pub reading : {S : Type 0} → Machine S → Words → S → ℕ → ℕ → Run (Reached S)
 reading m ws s place room = andThen (run m ws s place room) room (closed m)
+
+-- the words of bytes from a place on: what a reader of bytes promises
+abbrev pub readFrom : {S : Type 0} → Machine S → List ℕ → S → ℕ → ℕ → Run (Reached S)
+readFrom m bytes s at room = reading m (wordsOf (m .size) (drop at bytes)) s at room
 
 -- a machine that keeps a property of its state gives good rows from it on
 pub record Keeps {S : Type 0} (m : Machine S) (Kept : S → Type 0) : Type 0 where

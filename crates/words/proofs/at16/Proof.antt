@@ -1,3 +1,4 @@
+-- `words::at16` meets its contract.
 use Rattle.words.proofs.Cut.{at-end, part-next}
 use lib.Dec.{lit<}
 use borrow.Author.Needs.{needs}

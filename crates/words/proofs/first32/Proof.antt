@@ -1,3 +1,4 @@
+-- `words::first32` meets its contract.
 use Rattle.words.proofs.Cut.{first-end, first-part, first-word}
 use lib.Dec.{lit<}
 use native.Mathlib.Omega.{arith}

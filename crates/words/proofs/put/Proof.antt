@@ -1,3 +1,4 @@
+-- `words::put` meets its contract.
 use Rattle.words.proofs.Bytes.{put-word-none, put-word-done}
 use native.Mathlib.Omega.{arith}
 use borrow.Author.Needs.{needs}

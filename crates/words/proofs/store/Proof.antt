@@ -1,3 +1,4 @@
+-- `words::store` meets its contract. The loop's invariant: k bytes are stored, and `rest` is what is left of the word.
 use Rattle.words.proofs.Bytes.{upper, upper-more, stored-more}
 use Rattle.words.specs.Words.{bytesOf}
 use borrow.Author.Needs.{needs}

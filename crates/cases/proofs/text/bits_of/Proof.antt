@@ -1,3 +1,4 @@
+-- `cases::text::bits_of` meets its contract.
 use borrow.Author.Needs.{needs}
 use Rattle.cases.proofs.Singles.{number}
 use Rattle.cases.proofs.text.bits_of.Statement.{statement}

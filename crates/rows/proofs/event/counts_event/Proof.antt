@@ -1,3 +1,4 @@
+-- `rows::event::counts_event` meets its contract.
 use Rattle.rows.proofs.GoodRows.{counts-below}
 use native.Mathlib.Omega.{arith}
 use Rattle.rows.specs.Event.{countsEvent}

@@ -1,3 +1,4 @@
+-- `rows::event::event_as` meets its contract.
 use Rattle.rows.specs.Event.{eventAs}
 use borrow.Author.Needs.{needs}
 use Rattle.rows.proofs.event.event_as.Statement.{statement}

@@ -1,3 +1,4 @@
+-- `rows::event::event_numbers` meets its contract.
 use Rattle.rows.proofs.Shown.{numbers-bad, numbers-row, numbers-none}
 use mathlib.Core.Path.{_∙_, sym}
 use borrow.Author.Needs.{needs}

@@ -1,3 +1,4 @@
+-- `rows::event::event_of` meets its contract.
 use Rattle.rows.proofs.Shown.{event-good}
 use mathlib.Core.Path.{_∙_, sym}
 use Rattle.rows.specs.Rules.{goodRow}

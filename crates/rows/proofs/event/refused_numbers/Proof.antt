@@ -1,3 +1,4 @@
+-- `rows::event::refused_numbers` meets its contract.
 use borrow.Author.Needs.{needs}
 use Rattle.rows.proofs.event.refused_numbers.Statement.{statement}
 use Rattle.rows.proofs.event.refused_numbers.Tie as tie

@@ -1,3 +1,4 @@
+-- `rows::event::row_numbers` meets its contract.
 use Rattle.rows.proofs.Shown.{shown-turned, shown-refused}
 use mathlib.Core.Path.{_∙_, sym}
 use borrow.Author.Needs.{needs}

@@ -1,3 +1,4 @@
+-- `rows::event::singles_event` meets its contract.
 use Rattle.rows.specs.Event.{singlesEvent}
 use borrow.Author.Needs.{needs}
 use Rattle.rows.proofs.event.singles_event.Statement.{statement}

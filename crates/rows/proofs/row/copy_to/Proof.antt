@@ -1,3 +1,4 @@
+-- `rows::row::copy_to` meets its contract. The loop's invariant: the numbers up to k are pasted, the rest is as it was.
 use Rattle.rows.proofs.Stored.{paste-all}
 use borrow.Author.Needs.{needs}
 use lib.Seq.{paste, paste-zero, paste-suc}

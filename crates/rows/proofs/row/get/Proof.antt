@@ -1,3 +1,4 @@
+-- `rows::row::get` meets its contract. Every index lies within the row, which lies within the list.
 use Prim.Native.Nat.{_/_}
 use lib.ListN.{length}
 use native.Mathlib.Omega.{arith}

@@ -1,3 +1,4 @@
+-- `rows::row::put` meets its contract.
 use native.Mathlib.Omega.{arith}
 use Rattle.rows.proofs.Stored.{put-row-none, put-row-done}
 use borrow.Author.Needs.{needs}

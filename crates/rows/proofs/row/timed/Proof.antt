@@ -1,3 +1,4 @@
+-- `rows::row::timed` meets its contract.
 use Rattle.rows.specs.Row.{timed}
 use mathlib.Core.Path.{refl}
 use borrow.Author.Needs.{needs}

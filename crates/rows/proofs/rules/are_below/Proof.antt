@@ -1,3 +1,4 @@
+-- `rows::rules::are_below` meets its contract.
 use mathlib.Core.Bool.{and-true}
 use borrow.Author.Tests.{lt-ltb, le-ltb}
 use Rattle.rows.proofs.rules.are_below.Statement.{statement}

@@ -1,3 +1,4 @@
+-- `rows::rules::are_unused` meets its contract.
 use mathlib.Core.Bool.{and-true}
 use borrow.Author.Tests.{eq-eqb, ne-eqb}
 use Rattle.rows.proofs.rules.are_unused.Statement.{statement}

@@ -1,3 +1,4 @@
+-- `rows::rules::good` meets its contract.
 use Rattle.rows.specs.Rules.{goodRow}
 use borrow.Author.Needs.{needs}
 use Rattle.rows.proofs.rules.good.Statement.{statement}

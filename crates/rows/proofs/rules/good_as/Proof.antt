@@ -1,3 +1,4 @@
+-- `rows::rules::good_as` meets its contract.
 use Rattle.rows.specs.Rules.{goodAs}
 use borrow.Author.Needs.{needs}
 use Rattle.rows.proofs.rules.good_as.Statement.{statement}

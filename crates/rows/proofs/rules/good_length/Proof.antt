@@ -1,3 +1,4 @@
+-- `rows::rules::good_length` meets its contract.
 use borrow.Author.Tests.{eq-eqb, ne-eqb}
 use Rattle.rows.specs.Rules.{goodLength}
 use Rattle.rows.proofs.rules.good_length.Statement.{statement}

@@ -1,3 +1,4 @@
+-- `rows::rules::is_imu_counts` meets its contract.
 use Rattle.rows.specs.Rules.{goodAs}
 use Rattle.rows.proofs.Answered.{answered-no, answered-yes}
 use mathlib.Core.Path.{_∙_}

@@ -1,3 +1,4 @@
+-- `rows::rules::is_pair` meets its contract.
 use Rattle.rows.proofs.Answered.{answered-no, answered-yes}
 use borrow.Author.Tests.{lt-ltb, le-ltb}
 use mathlib.Core.Path.{_∙_}

@@ -1,3 +1,4 @@
+-- `rows::rules::is_pixel` meets its contract.
 use Rattle.rows.proofs.Answered.{answered-no, answered-yes}
 use Rattle.rows.specs.Rules.{goodAs}
 use borrow.Author.Tests.{lt-ltb, le-ltb}

@@ -1,3 +1,4 @@
+-- `rows::rules::is_timely` meets its contract.
 use borrow.Author.Needs.{needs}
 use Rattle.rows.proofs.rules.is_timely.Statement.{statement}
 use Rattle.rows.proofs.rules.is_timely.Tie as tie

@@ -1,3 +1,4 @@
+-- `rows::rules::is_usb_packet` meets its contract.
 use Rattle.rows.specs.Row.{timeOf}
 use mathlib.Core.Path.{sym}
 use borrow.Author.Tests.{lt-ltb, le-ltb, eq-eqb, ne-eqb}

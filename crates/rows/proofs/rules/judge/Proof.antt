@@ -1,3 +1,4 @@
+-- `rows::rules::judge` meets its contract. Each answer is the definition's at the tests that led there.
 use Rattle.rows.proofs.Judged.{judged-back, judged-time}
 use borrow.Author.Tests.{not-true, not-false}
 use Rattle.rows.specs.Rules.{judgedOf}

@@ -1,3 +1,4 @@
+-- `rows::event::Event::readings` meets its contract.
 use borrow.Author.Needs.{needs}
 use Rattle.rows.proofs.event.Event.readings.Statement.{statement}
 use Rattle.rows.proofs.event.Event.readings.Tie as tie

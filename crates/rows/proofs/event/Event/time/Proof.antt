@@ -1,3 +1,4 @@
+-- `rows::event::Event::time` meets its contract.
 use borrow.Author.Needs.{needs}
 use Rattle.rows.proofs.event.Event.time.Statement.{statement}
 use Rattle.rows.proofs.event.Event.time.Tie as tie

@@ -1,3 +1,4 @@
+-- `rows::fault::Reading::numbers` meets its contract.
 use borrow.Author.Needs.{needs}
 use Rattle.rows.proofs.fault.Reading.numbers.Statement.{statement}
 use Rattle.rows.proofs.fault.Reading.numbers.Tie as tie

@@ -1,3 +1,4 @@
+-- `rows::fault::Writing::numbers` meets its contract.
 use borrow.Author.Needs.{needs}
 use Rattle.rows.proofs.fault.Writing.numbers.Statement.{statement}
 use Rattle.rows.proofs.fault.Writing.numbers.Tie as tie

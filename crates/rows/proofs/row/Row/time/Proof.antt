@@ -1,3 +1,4 @@
+-- `rows::row::Row::time` meets its contract.
 use Rattle.rows.specs.Row.{timeOf}
 use mathlib.Core.Path.{refl}
 use borrow.Author.Needs.{needs}

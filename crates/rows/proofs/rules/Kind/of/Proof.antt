@@ -1,3 +1,4 @@
+-- `rows::rules::Kind::of` meets its contract.
 use borrow.Author.Tests.{ne-eqb}
 use Rattle.rows.specs.Rules.{kindOf}
 use Rattle.rows.proofs.rules.Kind.of.Statement.{statement}

@@ -1,8 +1,9 @@
+-- `rows::readings::single` meets its contract.
 use Rattle.rows.proofs.Floats.{zero-over-zero, pattern-nan, pattern-number}
 use mathlib.Core.Path.{_∙_, sym}
 use borrow.Author.Needs.{needs}
-use Rattle.rows.proofs.event.single.Statement.{statement}
-use Rattle.rows.proofs.event.single.Tie as tie
+use Rattle.rows.proofs.readings.single.Statement.{statement}
+use Rattle.rows.proofs.readings.single.Tie as tie
 
 returns : tie.Need-returns
 returns c = zero-over-zero ∙ sym (pattern-nan (c .before .args .bits) (c .if1 .taken))

@@ -1,9 +1,10 @@
+-- `rows::readings::rotation` meets its contract.
 use Rattle.rows.specs.Readings.{rotationOf}
 use lib.Ieee.{Float, binary32, ofBits, ofInt, div}
 use mathlib.Core.Path.{ap}
 use borrow.Author.Needs.{needs}
-use Rattle.rows.proofs.event.rotation.Statement.{statement}
-use Rattle.rows.proofs.event.rotation.Tie as tie
+use Rattle.rows.proofs.readings.rotation.Statement.{statement}
+use Rattle.rows.proofs.readings.rotation.Tie as tie
 
 signed-requires : tie.Need-signed-requires
 signed-requires c κs = search needs

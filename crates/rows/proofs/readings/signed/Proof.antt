@@ -1,8 +1,9 @@
+-- `rows::readings::signed` meets its contract.
 use native.Mathlib.Omega.{arith}
 use Rattle.rows.proofs.Floats.{signed-positive, signed-negative}
 use borrow.Author.Needs.{needs}
-use Rattle.rows.proofs.event.signed.Statement.{statement}
-use Rattle.rows.proofs.event.signed.Tie as tie
+use Rattle.rows.proofs.readings.signed.Statement.{statement}
+use Rattle.rows.proofs.readings.signed.Tie as tie
 
 int-to-float-result : tie.Need-int-to-float-result
 int-to-float-result c = search needs

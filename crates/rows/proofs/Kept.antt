@@ -15,11 +15,12 @@ use Rattle.rows.specs.Row.{timeOf}
 use Rattle.rows.specs.Rules.{kindOf, goodAs, goodRow}
 use Rattle.rows.specs.Event.{countsEvent, singlesEvent, eventAs, eventOf, eventTime}
 use Rattle.rows.specs.Runs.{Ending, finished, refused, resume, andThen}
-use Rattle.rows.specs.Promises.{EventRefused, EventTimed, AccelerationExact, AccelerationZero, SingleBits, RowsOfFlat, FlatOfRows, OverKept, MadeGood, VerdictWritable, AndThenGrouped}
+use Rattle.rows.specs.Promises.{EventRefused, EventTimed, AccelerationExact, AccelerationZero, SingleBits, RowsOfFlat, FlatOfRows, OverKept, MadeGood, GoodIsMade, VerdictWritable, AndThenGrouped}
 use Rattle.rows.proofs.Floats as floats
 use Rattle.rows.proofs.GoodRows.{pixel-good, trigger-good, counts-good, singles-good, packet-good, special-good}
 use Rattle.rows.proofs.Judged.{accepted-writable, writable-accepted}
 use Rattle.rows.proofs.Lists as lists
+use Rattle.rows.proofs.MadeRows.{good-made}
 use Rattle.rows.proofs.Sequence.{prepend-then}
 
 no-event : {E : Type 0} {e : Event} → Turned e ≡ Refused BadRow → E
@@ -98,6 +99,9 @@ made-good =
       packet = packet-good;
       special = λ t c n h. special-good t h c n;
     }
+
+pub good-is-made : GoodIsMade
+good-is-made = good-made
 
 pub verdict-writable : VerdictWritable
 verdict-writable writable rs i last = (accepted-writable writable rs i last, writable-accepted writable rs i last)

@@ -58,6 +58,19 @@ pub record MadeGood : Type 0 where
   pub packet : (flag count high low : ℕ) → flag < 2 → goodRow (packetRow flag count high low) ≡ true
   pub special : (t code content : ℕ) → t < 17179869184 → code < 128 → content < 16777216 → goodRow (specialRow t code content) ≡ true
 
+-- and a good row is the one made from its values, which are within the limits. (The lower half of a time has 32 bits in every slice.)
+pub record GoodMade (r : Row) : Type 0 where
+  pub pixel : r .kind ≡ 1 → (r ≡ pixelRow (timeOf r) (r .a) (r .b) (r .c)) × (timeOf r < 17179869184) × (r .a < 32768) × (r .b < 32768) × (r .c < 2)
+  pub trigger : r .kind ≡ 2 → (r ≡ triggerRow (timeOf r) (r .a) (r .b)) × (timeOf r < 17179869184) × (r .a < 32) × (r .b < 2)
+  pub counts : r .kind ≡ 3 → (r ≡ countsRow (timeOf r) (r .a) (r .b) (r .c) (r .d) (r .e) (r .f)) × (timeOf r < 17179869184)
+      × (r .a < 65536) × (r .b < 65536) × (r .c < 65536) × (r .d < 65536) × (r .e < 65536) × (r .f < 65536)
+  pub singles : r .kind ≡ 4 → (r ≡ singlesRow (timeOf r) (r .a) (r .b) (r .c) (r .d) (r .e) (r .f) (r .g)) × (timeOf r < 17179869184)
+  pub packet : r .kind ≡ 5 → (r ≡ packetRow (r .a) (r .b) (r .c) (r .d)) × (r .a < 2)
+  pub special : r .kind ≡ 6 → (r ≡ specialRow (timeOf r) (r .a) (r .b)) × (timeOf r < 17179869184) × (r .a < 128) × (r .b < 16777216)
+
+abbrev pub GoodIsMade : Type 0
+GoodIsMade = (r : Row) → goodRow r ≡ true → r .low < 4294967296 → GoodMade r
+
 -- 01, "Refusal numbers" and "Spelling": a list passes row by row exactly where its rows are good and writable and its times do not decrease
 abbrev pub VerdictWritable : Type 0
 VerdictWritable = (writable : Row → Bool) (rs : List Row) (i last : ℕ)

@@ -4,6 +4,10 @@ use Prim.Native.Nat.{ℕ, _-_}
 use native.Mathlib.Omega.{arith}
 use mathlib.Core.Bool.{Bool, true, false}
 use lib.ListN.{length, drop, length-append, length-drop}
+use lib.Dec.{lit<}
+use lib.IntN.{natAbs}
+use lib.Ieee.{binary32}
+use lib.Ieee.Fits.{div-fits}
 use lib.Seq.{take-append-seam, drop-append-seam}
 use Rattle.rows.specs.declared.fault.Fault.the-variants.{BadRow}
 use Rattle.rows.specs.declared.row.Row.{Row}
@@ -13,14 +17,16 @@ use Rattle.rows.specs.declared.event.Event.{Event}
 use Rattle.rows.specs.declared.event.Conversion.the-variants.{Turned, Refused}
 use Rattle.rows.specs.Row.{timeOf}
 use Rattle.rows.specs.Rules.{kindOf, goodAs, goodRow}
+use Rattle.rows.specs.Readings.{signedOf, accelerationOf, isNegative}
 use Rattle.rows.specs.Event.{countsEvent, singlesEvent, eventAs, eventOf, eventTime}
 use Rattle.rows.specs.Runs.{Ending, finished, refused, resume, andThen}
-use Rattle.rows.specs.Promises.{EventRefused, EventTimed, AccelerationExact, AccelerationZero, SingleBits, RowsOfFlat, FlatOfRows, OverKept, MadeGood, GoodIsMade, VerdictWritable, AndThenGrouped}
+use Rattle.rows.specs.Promises.{EventRefused, EventTimed, AccelerationExact, AccelerationOnly, AccelerationZero, SingleBits, RowsOfFlat, FlatOfRows, OverKept, MadeGood, GoodIsMade, VerdictWritable, AndThenGrouped}
 use Rattle.rows.proofs.Floats as floats
-use Rattle.rows.proofs.GoodRows.{pixel-good, trigger-good, counts-good, singles-good, packet-good, special-good}
+use Rattle.rows.proofs.GoodRows.{timed-time, pixel-good, trigger-good, counts-good, singles-good, packet-good, special-good}
 use Rattle.rows.proofs.Judged.{accepted-writable, writable-accepted}
 use Rattle.rows.proofs.Lists as lists
 use Rattle.rows.proofs.MadeRows.{good-made}
+use Rattle.rows.proofs.OneValue.{one-value}
 use Rattle.rows.proofs.Sequence.{prepend-then}
 
 no-event : {E : Type 0} {e : Event} → Turned e ≡ Refused BadRow → E
@@ -69,6 +75,11 @@ event-timed r e p = go (goodRow r) refl
 pub acceleration-exact : AccelerationExact
 acceleration-exact = floats.acceleration-exact
 
+pub acceleration-only : AccelerationOnly
+unfolding accelerationOf
+acceleration-only c h x f v =
+    one-value x (accelerationOf c) (isNegative (signedOf c)) (natAbs (signedOf c)) 16384 (lit< tt) f (div-fits binary32 _ _) v (floats.acceleration-exact c h)
+
 pub acceleration-zero : AccelerationZero
 acceleration-zero = floats.acceleration-zero
 
@@ -92,6 +103,7 @@ over-kept =
 pub made-good : MadeGood
 made-good =
     record {
+      time = timed-time;
       pixel = λ t x y p h. pixel-good t h x y p;
       trigger = λ t c e h. trigger-good t h c e;
       counts = λ t ax ay az rx ry rz h. counts-good t h ax ay az rx ry rz;

@@ -4,13 +4,14 @@ use Prim.Native.Nat.{ℕ, _%_, _≤_, _<_}
 use mathlib.Core.Bool.{Bool, true, false}
 use mathlib.Core.List.{List}
 use lib.ListN.{length, take, drop}
+use lib.Dec.{T}
 use lib.IntN.{pos}
-use lib.Ieee.{fin, binary32, toBits}
+use lib.Ieee.{Float, fin, binary32, fits, toBits}
 use Rattle.rows.specs.declared.fault.Fault.the-variants.{BadRow}
 use Rattle.rows.specs.declared.row.Row.{Row}
 use Rattle.rows.specs.declared.event.Event.{Event}
 use Rattle.rows.specs.declared.event.Conversion.the-variants.{Turned, Refused}
-use Rattle.rows.specs.Row.{flat, over, timeOf, rowsOf, pixelRow, triggerRow, countsRow, singlesRow, packetRow, specialRow}
+use Rattle.rows.specs.Row.{flat, over, timeOf, rowsOf, timed, pixelRow, triggerRow, countsRow, singlesRow, packetRow, specialRow}
 use Rattle.rows.specs.Rules.{goodRow, accepted, verdictFrom, Writable}
 use Rattle.rows.specs.Readings.{signedOf, accelerationOf, singleOf, Times}
 use Rattle.rows.specs.Event.{eventOf, eventTime}
@@ -28,6 +29,10 @@ EventTimed = (r : Row) (e : Event) → eventOf r ≡ Turned e → eventTime e �
 abbrev pub AccelerationExact : Type 0
 AccelerationExact = (c : ℕ) → c < 65536 → Times (accelerationOf c) 16384 (signedOf c)
 
+-- and it is the only single of that value
+abbrev pub AccelerationOnly : Type 0
+AccelerationOnly = (c : ℕ) → c < 65536 → (x : Float) → T (fits binary32 x) → Times x 16384 (signedOf c) → x ≡ accelerationOf c
+
 abbrev pub AccelerationZero : Type 0
 AccelerationZero = accelerationOf 0 ≡ fin false 0 (pos 0)
 
@@ -42,14 +47,15 @@ RowsOfFlat = (rs : List Row) → rowsOf (flat rs) ≡ rs
 abbrev pub FlatOfRows : Type 0
 FlatOfRows = (l : List ℕ) → length l % 10 ≡ 0 → flat (rowsOf l) ≡ l
 
--- 01, "Refusal numbers": of a buffer that numbers were written over, the front is they, and nothing past them is touched
+-- 01, "Refusal numbers": a buffer that numbers were written over begins with them, and nothing past them is touched
 pub record OverKept : Type 0 where
   pub front : (new old : List ℕ) → take (length new) (over new old) ≡ new
   pub rest : (new old : List ℕ) → drop (length new) (over new old) ≡ drop (length new) old
   pub long : (new old : List ℕ) → length new ≤ length old → length (over new old) ≡ length old
 
--- a row made from values within 01's limits is good, and has the time that it was made with
+-- a row has the time that it was made with, and one made from values within 01's limits is good
 pub record MadeGood : Type 0 where
+  pub time : (kind t a b c d e f g : ℕ) → timeOf (timed kind t a b c d e f g) ≡ t
   pub pixel : (t x y p : ℕ) → t < 17179869184 → x < 32768 → y < 32768 → p < 2 → goodRow (pixelRow t x y p) ≡ true
   pub trigger : (t c e : ℕ) → t < 17179869184 → c < 32 → e < 2 → goodRow (triggerRow t c e) ≡ true
   pub counts : (t ax ay az rx ry rz : ℕ) → t < 17179869184 → ax < 65536 → ay < 65536 → az < 65536 → rx < 65536 → ry < 65536 → rz < 65536

@@ -1,4 +1,6 @@
 -- The invariant of a loop that reads the words of bytes, over any machine, and how each kind of word keeps or ends it.
+--     the end: ends-whole, ends-pending; a part of a word: ends-part; a refused word: ends-fault; a word without rows: passes
+--     a word with one row, by rows::put: goes-on-put, ends-not-put; a word with rows, all or none: goes-on, ends-full
 use mathlib.Core.Path.{_≡_, refl, _∙_, ap}
 use Prim.Native.Nat.{ℕ, _+_, _-_, _*_, _≤_, _<_}
 use mathlib.Core.Bool.{Bool, true, false}

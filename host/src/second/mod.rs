@@ -1,6 +1,6 @@
 //! A second implementation, written from the requirement and not from the Rattle code.
 //!
-//! It favours the plainest way of saying a rule over speed: tables of limits, whole-number arithmetic, no shared helper with
-//! the library under test.
+//! It favours the plainest way of saying a rule over speed: tables of limits, whole-number arithmetic, nothing shared
+//! with the library under test.
 
 pub mod rows;

@@ -1,5 +1,5 @@
 // Runs cases and writes what comes back, a line each. The file stdout beside src/ says what that must be; it is written
-// from the requirement by hand.
+// from the requirement and taken from no run.
 mod row_cases;
 mod text;
 mod word_cases;

@@ -10,9 +10,11 @@ use borrow.Author.Tests.{le-leb, lt-leb}
 use Rattle.rows.specs.declared.fault.Fault.{Fault}
 use Rattle.rows.specs.declared.fault.Fault.the-variants.{NoRoom}
 use Rattle.rows.specs.declared.fault.Reading.{Reading}
+use Rattle.rows.specs.declared.fault.ReadingNumbers.{ReadingNumbers}
 use Rattle.rows.specs.declared.row.Row.{Row}
+use Rattle.rows.specs.Fault.{readingNumbers}
 use Rattle.rows.specs.Row.{flat, roomOf, PutRow}
-use Rattle.rows.specs.Runs.{Ending, finished, refused, Run, prepend, stopped, give, andThen, endingAs, runAs, answerOf, ReadAs, Did}
+use Rattle.rows.specs.Runs.{Ending, finished, refused, Run, prepend, stopped, give, andThen, endingAs, runAs, answerOf, ReadAs, ReadNumbers, Did}
 use Rattle.rows.proofs.Sequence.{prepend-none, prepend-both}
 use Rattle.rows.proofs.Stored.{flat-append, flat-length, sets-append, sets-over, put-row-fits, put-row-full}
 
@@ -130,3 +132,8 @@ module _ {S : Type 0} {whole : Run S} {old : List ℕ} {e : Ending S} {n : ℕ} 
         answer = q ∙ ap₂ answerOf (sym (d .ending)) count;
         wrote = d .wrote ∙ sets-over (flat (whole .rows)) old (omega (arith, d .count, d .fits, flat-length (whole .rows)));
       }
+
+-- and of the answer as numbers
+pub reads-numbers : {S : Type 0} {whole : Run S} {old new : List ℕ} {x : Reading} {r : ReadingNumbers}
+    → ReadAs whole old new x → r ≡ readingNumbers x → ReadNumbers whole old new r
+reads-numbers h e = record { answer = e ∙ ap readingNumbers (h .answer); wrote = h .wrote }

@@ -10,7 +10,9 @@ use Rattle.rows.specs.declared.fault.Fault.{Fault}
 use Rattle.rows.specs.declared.fault.Fault.the-variants.{NoRoom}
 use Rattle.rows.specs.declared.fault.Reading.{Reading}
 use Rattle.rows.specs.declared.fault.Reading.the-variants.{Finished, Refused}
+use Rattle.rows.specs.declared.fault.ReadingNumbers.{ReadingNumbers}
 use Rattle.rows.specs.declared.row.Row.{Row}
+use Rattle.rows.specs.Fault.{readingNumbers}
 use Rattle.rows.specs.Row.{flat, over, roomOf}
 
 -- how a run ends: in a state, or by a refusal at a place of the input
@@ -59,6 +61,11 @@ answerOf (refused f place) n = Refused f n place
 -- a reader's promise: the answer is that of the run, and the buffer holds its rows over what it held
 pub record ReadAs {S : Type 0} (run : Run S) (old new : List ℕ) (r : Reading) : Type 0 where
   pub answer : r ≡ answerOf (run .ending) (length (run .rows))
+  pub wrote : new ≡ over (flat (run .rows)) old
+
+-- the same promise of an answer as numbers
+pub record ReadNumbers {S : Type 0} (run : Run S) (old new : List ℕ) (r : ReadingNumbers) : Type 0 where
+  pub answer : r ≡ readingNumbers (answerOf (run .ending) (length (run .rows)))
   pub wrote : new ≡ over (flat (run .rows)) old
 
 -- the promise of a function that reads a part: n₀ rows were in `old` before, n are in `new`, and the run ended so

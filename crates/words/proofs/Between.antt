@@ -1,24 +1,31 @@
 -- The invariant of a loop that reads the words of bytes, over any machine, and how each kind of word keeps or ends it.
---     the end: ends-whole, ends-pending; a part of a word: ends-part; a refused word: ends-fault; a word without rows: passes
---     a word with one row, by rows::put: goes-on-put, ends-not-put; a word with rows, all or none: goes-on, ends-full
-use mathlib.Core.Path.{_≡_, refl, _∙_, ap}
+--     what the code found: found; the end: ends-whole, ends-pending; a part of a word: ends-part; a word: word-in; a refused word: ends-fault
+--     a word with rows, all or none: goes-on, ends-full; a word whose rows a function has written: goes-on-gave, ends-gave
+use mathlib.Core.Path.{_≡_, refl, sym, _∙_, ap, subst}
+use mathlib.Core.Logic.{⊎-elim}
 use Prim.Native.Nat.{ℕ, _+_, _-_, _*_, _≤_, _<_}
-use mathlib.Core.Bool.{Bool, true, false}
-use mathlib.Core.List.{List, [], _∷_}
-use lib.ListN.{length, drop}
+use native.Mathlib.Omega.{arith}
+use mathlib.Core.Bool.{true, false}
+use mathlib.Core.List.{List}
+use lib.ListN.{length, take, drop}
 use lib.Seq.{sets}
 use Rattle.rows.specs.declared.fault.Fault.{Fault}
 use Rattle.rows.specs.declared.fault.Fault.the-variants.{NoRoom, Cut}
 use Rattle.rows.specs.declared.fault.Reading.the-variants.{Finished, Refused}
 use Rattle.rows.specs.declared.row.Row.{Row}
-use Rattle.rows.specs.Row.{flat, roomOf, PutRow}
+use Rattle.rows.specs.Row.{flat, roomOf}
 use Rattle.rows.specs.Runs.{finished, refused, give, ReadAs}
-use Rattle.rows.proofs.Sequence.{give-then, give-none}
-use Rattle.rows.proofs.Sofar.{Sofar, sofar-start, sofar-as, sofar-ends, sofar-give, sofar-full, sofar-put, sofar-not-put, sofar-length, did-reads}
+use Rattle.rows.proofs.Sequence.{give-then}
+use Rattle.rows.proofs.Sofar.{Sofar, sofar-start, sofar-ends, sofar-give, sofar-full, sofar-length, sofar-room, did-reads}
+use Rattle.words.specs.declared.Next.{Next}
 use Rattle.words.specs.declared.Next.the-variants.{Word, Part, End}
-use Rattle.words.specs.Words.{Words, word, wordsOf, nextAt}
-use Rattle.words.specs.Machine.{next, fault, Machine, run, closed, reading, readFrom}
-use Rattle.words.proofs.Cut.{end-found, part-found, word-found, word-within}
+use Rattle.words.specs.Words.{Words, word, firstOf, wordsOf, nextAt}
+use Rattle.words.specs.declared.Gave.{Gave}
+use Rattle.words.specs.declared.Gave.the-variants as gave
+use Rattle.words.specs.Machine.{next, fault, Given, gives, refuses, onto, Machine, run, closed, reading, readFrom}
+use Rattle.words.specs.Written.{GaveAs}
+use Rattle.words.proofs.Cut.{end-found, part-found, word-found, word-within, part-next}
+use Rattle.words.proofs.Wrote.{WroteAll, gave-all, WroteNone, gave-nothing}
 
 module _ {S : Type 0} (m : Machine S) (bytes : List ℕ) where
   -- the loop began at `from` in s₀ on the buffer `old`; it is at `at` in s, and n rows are in `buf`
@@ -33,6 +40,13 @@ module _ {S : Type 0} {m : Machine S} {bytes : List ℕ} {s₀ : S} {from : ℕ}
   pub between-length : length buf ≡ length old
   between-length = sofar-length (h .sofar)
 
+  pub between-room : n ≤ roomOf buf
+  between-room = omega (arith, h .sofar .fits, sofar-room (h .sofar))
+
+  -- what a function found at the front of the bytes that are left
+  pub found : {r v : Next} → r ≡ firstOf (wordsOf (m .size) (take (length bytes - at) (drop at bytes))) → r ≡ v → v ≡ nextAt (m .size) bytes at
+  found e f = sym f ∙ part-next (m .size) bytes at e
+
   -- the bytes end here, with no group in hand, or with one
   pub ends-whole : End ≡ nextAt (m .size) bytes at → m .pending s ≡ false → ReadAs (readFrom m bytes s₀ from (roomOf old)) old buf (Finished n)
   ends-whole e p = did-reads {e = finished (record { state = s; place = at })} (sofar-ends (h .sofar) (rw (end-found (wordsOf (m .size) (drop at bytes)) e, p))) refl
@@ -46,6 +60,9 @@ module _ {S : Type 0} {m : Machine S} {bytes : List ℕ} {s₀ : S} {from : ℕ}
 
   -- a word w is next
   module _ (some : 0 < m .size) {w : ℕ} (e : Word w ≡ nextAt (m .size) bytes at) where
+    pub word-in : at + m .size ≤ length bytes
+    word-in = word-within (m .size) some bytes at e
+
     at-word : (room : ℕ) → readFrom m bytes s at room ≡ reading m (word w (wordsOf (m .size) (drop (at + m .size) bytes))) s at room
     at-word room = ap (λ (ws : Words). reading m ws s at room) (word-found (m .size) some bytes at e)
 
@@ -55,8 +72,8 @@ module _ {S : Type 0} {m : Machine S} {bytes : List ℕ} {s₀ : S} {from : ℕ}
 
     -- or gives rows, none among them
     module _ {s′ : S} {new : List Row} (g : m .step s at w ≡ next s′ new) where
-      gives : (room : ℕ) → readFrom m bytes s at room ≡ give new (m .origin s at) room (readFrom m bytes s′ (at + m .size))
-      gives room =
+      word-gives : (room : ℕ) → readFrom m bytes s at room ≡ give new (m .origin s at) room (readFrom m bytes s′ (at + m .size))
+      word-gives room =
           at-word room
           ∙ rw g (give-then new (m .origin s at) room (λ room′. run m (wordsOf (m .size) (drop (at + m .size) bytes)) s′ (at + m .size) room′) (closed m))
 
@@ -64,29 +81,34 @@ module _ {S : Type 0} {m : Machine S} {bytes : List ℕ} {s₀ : S} {from : ℕ}
           → Between m bytes s₀ from old s′ (at + m .size) (n + length new) buf′
       goes-on f b =
           record {
-            sofar = sofar-give (h .sofar) (readFrom m bytes s′ (at + m .size)) new (m .origin s at) (gives (roomOf old - n)) refl f b;
-            within = word-within (m .size) some bytes at e;
+            sofar = sofar-give (h .sofar) (readFrom m bytes s′ (at + m .size)) new (m .origin s at) (word-gives (roomOf old - n)) refl f b;
+            within = word-in;
           }
 
       pub ends-full : roomOf old < n + length new → ReadAs (readFrom m bytes s₀ from (roomOf old)) old buf (Refused NoRoom n (m .origin s at))
-      ends-full f = did-reads (sofar-full (h .sofar) (readFrom m bytes s′ (at + m .size)) new (m .origin s at) (gives (roomOf old - n)) f) refl
+      ends-full f = did-reads (sofar-full (h .sofar) (readFrom m bytes s′ (at + m .size)) new (m .origin s at) (word-gives (roomOf old - n)) f) refl
 
-    -- no row: the buffer is as it was
-    pub passes : {s′ : S} → m .step s at w ≡ next s′ [] → Between m bytes s₀ from old s′ (at + m .size) n buf
-    passes {s′} g =
-        record {
-          sofar = sofar-as (h .sofar) {rest′ = readFrom m bytes s′ (at + m .size)} (gives g (roomOf old - n) ∙ give-none (m .origin s at) (roomOf old - n) (readFrom m bytes s′ (at + m .size)));
-          within = word-within (m .size) some bytes at e;
-        }
+    -- rows that a function of the word's own wrote, all or none; a refusal of no room is given where the word begins
+    module _ {g : Given} (s′ : S) (o : m .step s at w ≡ onto g s′) {buf′ : List ℕ} where
+      pub goes-on-gave : {r : Gave} {k : ℕ} → GaveAs g n buf buf′ r → r ≡ gave.Rows k → Between m bytes s₀ from old s′ (at + m .size) k buf′
+      goes-on-gave {r} {k} did is =
+          let all : WroteAll g n buf buf′ k = gave-all g (subst (GaveAs g n buf buf′) is did) in
+          let e : m .step s at w ≡ next s′ (all .new) = o ∙ ap (λ (a : Given). onto a s′) (all .given) in
+          let f : n + length (all .new) ≤ roomOf old = omega (arith, all .fits, sofar-room (h .sofar)) in
+          subst (λ (j : ℕ). Between m bytes s₀ from old s′ (at + m .size) j buf′) (all .count) (goes-on e f (all .wrote))
 
-    -- one row, which was put or did not fit
-    module _ {s′ : S} {row : Row} (g : m .step s at w ≡ next s′ (row ∷ [])) {buf′ : List ℕ} {r : Bool} (put : PutRow buf n row buf′ r) where
-      pub goes-on-put : r ≡ true → Between m bytes s₀ from old s′ (at + m .size) (n + 1) buf′
-      goes-on-put t =
-          record {
-            sofar = sofar-put (h .sofar) (readFrom m bytes s′ (at + m .size)) row (m .origin s at) (gives g (roomOf old - n)) put t;
-            within = word-within (m .size) some bytes at e;
-          }
+      pub ends-gave : {r : Gave} {f : Fault} → m .origin s at ≡ at → GaveAs g n buf buf′ r → r ≡ gave.Refused f → ReadAs (readFrom m bytes s₀ from (roomOf old)) old buf′ (Refused f n at)
+      ends-gave {r} {f} place did is = subst (λ (b : List ℕ). ReadAs (readFrom m bytes s₀ from (roomOf old)) old b (Refused f n at)) (sym (none .wrote)) (⊎-elim own full (none .reason))
+        where
+          none : WroteNone g n buf buf′ f
+          none = gave-nothing g (subst (GaveAs g n buf buf′) is did)
 
-      pub ends-not-put : r ≡ false → ReadAs (readFrom m bytes s₀ from (roomOf old)) old buf′ (Refused NoRoom n (m .origin s at))
-      ends-not-put t = did-reads (sofar-not-put (h .sofar) (readFrom m bytes s′ (at + m .size)) row (m .origin s at) (gives g (roomOf old - n)) put t) refl
+          own : g ≡ refuses f → ReadAs (readFrom m bytes s₀ from (roomOf old)) old buf (Refused f n at)
+          own e = ends-fault (o ∙ ap (λ (a : Given). onto a s′) e)
+
+          full : (new : List Row) × (g ≡ gives new) × (roomOf buf < n + length new) × (f ≡ NoRoom) → ReadAs (readFrom m bytes s₀ from (roomOf old)) old buf (Refused f n at)
+          full t =
+              let e : m .step s at w ≡ next s′ (t .0) = o ∙ ap (λ (a : Given). onto a s′) (t .1) in
+              let k : roomOf old < n + length (t .0) = omega (arith, t .2, sofar-room (h .sofar)) in
+              subst (λ (p : ℕ). ReadAs (readFrom m bytes s₀ from (roomOf old)) old buf (Refused f n p)) place
+              (subst (λ (q : Fault). ReadAs (readFrom m bytes s₀ from (roomOf old)) old buf (Refused q n (m .origin s at))) (sym (t .3)) (ends-full e k))

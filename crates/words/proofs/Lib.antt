@@ -1,4 +1,5 @@
 -- Lemmas, and the laws proved (Kept).
+pub mod Admitted
 pub mod Between
 pub mod BitFields
 pub mod Bytes
@@ -6,3 +7,4 @@ pub mod Cut
 pub mod Kept
 pub mod RowsGiven
 pub mod TwoParts
+pub mod Wrote

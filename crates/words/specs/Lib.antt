@@ -1,5 +1,7 @@
 -- Definitions that the contracts cite, and the laws.
 pub mod Fields
 pub mod Machine
+pub mod Picture
 pub mod Promises
 pub mod Words
+pub mod Written

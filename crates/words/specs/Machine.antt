@@ -16,6 +16,16 @@ pub data Outcome (S : Type 0) : Type 0 where
   next : S → List Row → Outcome S
   fault : Fault → Outcome S
 
+-- what a word gives, its next state apart: rows, or a refusal
+pub data Given : Type 0 where
+  gives : List Row → Given
+  refuses : Fault → Given
+
+-- what it gives, and the next state
+abbrev pub onto : {S : Type 0} → Given → S → Outcome S
+onto (gives new) s = next s new
+onto (refuses f) s = fault f
+
 pub record Machine (S : Type 0) : Type 0 where
   -- the bytes of a word
   pub size : ℕ

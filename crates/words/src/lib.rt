@@ -7,6 +7,8 @@
 //     first16(bytes), first32, first64     the word at the front of a slice, a part of one, or the end
 //     at16(bytes, at), at32, at64          the same at a place; past the end is the end
 //     put(out, at, word, size)             a word's bytes into a lent slice; where they do not fit nothing is touched
+//     admit(bytes, picture)                refusals 1 and 14, which come before the first word
+//     Picture, Gave                        the picture that pixels lie in; what a word did to the lent rows
 //
 // Bit fields are written with / and % in code, and as `field` in specs/Fields.antt, whose laws hold for every position and width.
 ghost use mathlib.Core.Path.{_≡_};
@@ -15,12 +17,25 @@ ghost use Prim.Native.Nat.{_+_, _≤_};
 ghost use lib.ListN.{length};
 ghost use lib.Seq.{sets};
 ghost use Rattle.words.specs.Words.{value, firstOf, wordsOf, nextAt, bytesOf, PutWord};
+use rows::Fault;
+
+mod picture;
+
+pub use picture::Admission;
+pub use picture::Picture;
+pub use picture::admit;
 
 // What stands in a stream of bytes: a word, a part of one before the end, or the end.
 pub enum Next {
     Word(u64),
     Part,
     End,
+}
+
+// What a word did to the lent rows: so many are finished now, or it is refused and none of its own are written.
+pub enum Gave {
+    Rows(usize),
+    Refused(Fault),
 }
 
 fn word16(a: u8, b: u8) -> u64

@@ -4,7 +4,11 @@
 // length; the pointer is never null, and buffers do not overlap.
 ghost use mathlib.Core.Path.{_≡_};
 ghost use Rattle.rows.specs.Event.{eventNumbers};
+ghost use Rattle.rows.specs.Row.{roomOf};
+ghost use Rattle.rows.specs.Runs.{ReadNumbers};
+ghost use Rattle.evt3.specs.Reader.{pictureOf, readingOf};
 use rows::EventNumbers;
+use rows::ReadingNumbers;
 
 // The event of a row of ten numbers.
 #[no_mangle]
@@ -12,4 +16,17 @@ pub extern "C" fn fry_event_of(row: &[u32]) -> EventNumbers
     ensures { λ r. ⌜ r ≡ eventNumbers (now (row .entry)) ⌝ }
 {
     rows::event_numbers(row)
+}
+
+// The rows of EVT3 words.
+#[no_mangle]
+pub extern "C" fn fry_read_evt3(
+    bytes: &[u8],
+    width: u32,
+    height: u32,
+    rows: &mut [u32],
+) -> ReadingNumbers
+    ensures { λ r. ⌜ ReadNumbers (readingOf (pictureOf width height) (now (bytes .entry)) (roomOf (now (rows .entry)))) (now (rows .entry)) (now (rows .exit)) r ⌝ }
+{
+    evt3::read(bytes, width, height, rows).numbers()
 }

@@ -1,0 +1,297 @@
+-- `evt3::reader::read_words` meets its contract.
+use mathlib.Core.Path.{refl, _∙_}
+use Prim.Native.Nat.{_-_}
+use native.Mathlib.Omega.{arith}
+use borrow.Author.Needs.{needs}
+use lib.ListN.{length}
+use lib.Dec.{lit<}
+use Rattle.words.proofs.Between.{Between, between-start, between-length, between-room, found, ends-whole, ends-part, word-in, goes-on-gave, ends-gave}
+use Rattle.words.proofs.Wrote.{gave-length}
+use Rattle.evt3.specs.State.{fresh}
+use Rattle.evt3.specs.Reader.{machine}
+use Rattle.evt3.proofs.Steps.{any-parts, addr-y-sets, vect-base-x-sets, vect-12-moves, vect-8-moves, time-low-sets, time-high-sets, stays, wraps-fit}
+use Rattle.evt3.proofs.reader.read_words.Statement.{statement}
+use Rattle.evt3.proofs.reader.read_words.Tie as tie
+
+abbrev Inv-loop : tie.InvT-loop
+Inv-loop bytes picture rows₀ state₀ at₀ n₀ rows state at n = Between (machine picture) bytes fresh 0 rows₀ state at n rows
+
+abbrev μ-loop : tie.MeasureT-loop
+μ-loop bytes picture rows₀ state₀ at₀ n₀ rows state at n = length bytes - at
+
+fresh-requires : tie.Need-fresh-requires Inv-loop μ-loop
+fresh-requires c κs = search needs
+
+loop-holds : tie.Need-loop-holds Inv-loop μ-loop
+loop-holds c = rw (c .fresh .ensures) (between-start _ _ fresh 0 _ (omega arith))
+
+sub-first16 : tie.Need-sub-first16 Inv-loop μ-loop
+sub-first16 c = omega (arith, c .loop .inv .within)
+
+part-first16-start : tie.Need-part-first16-start Inv-loop μ-loop
+part-first16-start c = omega (arith, c .loop .inv .within)
+
+part-first16-end : tie.Need-part-first16-end Inv-loop μ-loop
+part-first16-end c = omega (arith, c .loop .inv .within)
+
+first16-requires : tie.Need-first16-requires Inv-loop μ-loop
+first16-requires c κs = search needs
+
+enum-told : tie.Need-enum-told Inv-loop μ-loop
+enum-told c = search needs
+
+same-length : tie.Need-same-length Inv-loop μ-loop
+same-length c = between-length (c .before .before .before .before .loop .inv)
+
+returns : tie.Need-returns Inv-loop μ-loop
+returns c =
+    let i = c .before .before .before .before .loop .inv in
+    ends-whole i (found i (c .before .before .first16 .ensures) (c .enum-told .given .1)) refl
+
+enum-told-2 : tie.Need-enum-told-2 Inv-loop μ-loop
+enum-told-2 c = search needs
+
+same-length-2 : tie.Need-same-length-2 Inv-loop μ-loop
+same-length-2 c = between-length (c .before .before .before .before .loop .inv)
+
+returns-2 : tie.Need-returns-2 Inv-loop μ-loop
+returns-2 c =
+    let i = c .before .before .before .before .loop .inv in
+    ends-part i (found i (c .before .before .first16 .ensures) (c .enum-told2 .given .1))
+
+enum-known-next : tie.Need-enum-known-next Inv-loop μ-loop
+enum-known-next c = search needs
+
+of-requires : tie.Need-of-requires Inv-loop μ-loop
+of-requires c κs = search needs
+
+give-requires : tie.Need-give-requires Inv-loop μ-loop
+give-requires c κs = between-room (c .before .before .before .before .before .before .before .loop .inv)
+
+enum-known-gave : tie.Need-enum-known-gave Inv-loop μ-loop
+enum-known-gave c = search needs
+
+same-length-3 : tie.Need-same-length-3 Inv-loop μ-loop
+same-length-3 c =
+    let d = c .before .before .before .before .before in
+    gave-length _ (d .give .ensures) ∙ between-length (d .before .before .before .before .before .before .before .before .loop .inv)
+
+returns-3 : tie.Need-returns-3 Inv-loop μ-loop
+returns-3 c =
+    let d = c .before .before .before .before .before in
+    let e = d .before .before in
+    let i = e .before .before .before .before .before .before .loop .inv in
+    let word = found i (e .before .before .before .before .first16 .ensures) (e .before .before .next .given .1) in
+    ends-gave i (lit< tt) word _ (any-parts _ _ _ (e .of .ensures)) refl (d .give .ensures) (c .before .gave .given .1)
+
+enum-known-gave-2 : tie.Need-enum-known-gave-2 Inv-loop μ-loop
+enum-known-gave-2 c = search needs
+
+add-at : tie.Need-add-at Inv-loop μ-loop
+add-at c =
+    let d = c .before .before .before .before .before in
+    let e = d .before .before in
+    let i = e .before .before .before .before .before .before .loop .inv in
+    let word = found i (e .before .before .before .before .first16 .ensures) (e .before .before .next .given .1) in
+    omega (arith, word-in i (lit< tt) word, e .before .before .before .before .before .before .before .before .before .before .good)
+
+enum-told-3 : tie.Need-enum-told-3 Inv-loop μ-loop
+enum-told-3 c = search needs
+
+addr-y-requires : tie.Need-addr-y-requires Inv-loop μ-loop
+addr-y-requires c κs = search needs
+
+loop-less : tie.Need-loop-less Inv-loop μ-loop
+loop-less c =
+    let d = c .before .before .before .before .before .before .before .before in
+    let e = d .before .before in
+    let i = e .before .before .before .before .before .before .loop .inv in
+    let word = found i (e .before .before .before .before .first16 .ensures) (e .before .before .next .given .1) in
+    omega (arith, word-in i (lit< tt) word)
+
+loop-again : tie.Need-loop-again Inv-loop μ-loop
+loop-again c =
+    let d = c .before .before .before .before .before .before .before .before in
+    let e = d .before .before in
+    let i = e .before .before .before .before .before .before .loop .inv in
+    let word = found i (e .before .before .before .before .first16 .ensures) (e .before .before .next .given .1) in
+    goes-on-gave i (lit< tt) word _ (addr-y-sets _ _ _ (e .of .ensures) (c .before .enum-told3 .given .1) (c .addr-y .ensures)) (d .give .ensures) (c .before .before .before .before .gave2 .given .1)
+
+enum-told-4 : tie.Need-enum-told-4 Inv-loop μ-loop
+enum-told-4 c = search needs
+
+vect-base-x-requires : tie.Need-vect-base-x-requires Inv-loop μ-loop
+vect-base-x-requires c κs = search needs
+
+loop-less-2 : tie.Need-loop-less-2 Inv-loop μ-loop
+loop-less-2 c =
+    let d = c .before .before .before .before .before .before .before .before in
+    let e = d .before .before in
+    let i = e .before .before .before .before .before .before .loop .inv in
+    let word = found i (e .before .before .before .before .first16 .ensures) (e .before .before .next .given .1) in
+    omega (arith, word-in i (lit< tt) word)
+
+loop-again-2 : tie.Need-loop-again-2 Inv-loop μ-loop
+loop-again-2 c =
+    let d = c .before .before .before .before .before .before .before .before in
+    let e = d .before .before in
+    let i = e .before .before .before .before .before .before .loop .inv in
+    let word = found i (e .before .before .before .before .first16 .ensures) (e .before .before .next .given .1) in
+    goes-on-gave i (lit< tt) word _ (vect-base-x-sets _ _ _ (e .of .ensures) (c .before .enum-told4 .given .1) (c .vect-base-x .ensures)) (d .give .ensures) (c .before .before .before .before .gave2 .given .1)
+
+enum-told-5 : tie.Need-enum-told-5 Inv-loop μ-loop
+enum-told-5 c = search needs
+
+vect-12-requires : tie.Need-vect-12-requires Inv-loop μ-loop
+vect-12-requires c κs = search needs
+
+loop-less-3 : tie.Need-loop-less-3 Inv-loop μ-loop
+loop-less-3 c =
+    let d = c .before .before .before .before .before .before .before .before in
+    let e = d .before .before in
+    let i = e .before .before .before .before .before .before .loop .inv in
+    let word = found i (e .before .before .before .before .first16 .ensures) (e .before .before .next .given .1) in
+    omega (arith, word-in i (lit< tt) word)
+
+loop-again-3 : tie.Need-loop-again-3 Inv-loop μ-loop
+loop-again-3 c =
+    let d = c .before .before .before .before .before .before .before .before in
+    let e = d .before .before in
+    let i = e .before .before .before .before .before .before .loop .inv in
+    let word = found i (e .before .before .before .before .first16 .ensures) (e .before .before .next .given .1) in
+    goes-on-gave i (lit< tt) word _ (vect-12-moves _ _ _ (e .of .ensures) (c .before .enum-told5 .given .1) (c .vect-12 .ensures)) (d .give .ensures) (c .before .before .before .before .gave2 .given .1)
+
+enum-told-6 : tie.Need-enum-told-6 Inv-loop μ-loop
+enum-told-6 c = search needs
+
+vect-8-requires : tie.Need-vect-8-requires Inv-loop μ-loop
+vect-8-requires c κs = search needs
+
+loop-less-4 : tie.Need-loop-less-4 Inv-loop μ-loop
+loop-less-4 c =
+    let d = c .before .before .before .before .before .before .before .before in
+    let e = d .before .before in
+    let i = e .before .before .before .before .before .before .loop .inv in
+    let word = found i (e .before .before .before .before .first16 .ensures) (e .before .before .next .given .1) in
+    omega (arith, word-in i (lit< tt) word)
+
+loop-again-4 : tie.Need-loop-again-4 Inv-loop μ-loop
+loop-again-4 c =
+    let d = c .before .before .before .before .before .before .before .before in
+    let e = d .before .before in
+    let i = e .before .before .before .before .before .before .loop .inv in
+    let word = found i (e .before .before .before .before .first16 .ensures) (e .before .before .next .given .1) in
+    goes-on-gave i (lit< tt) word _ (vect-8-moves _ _ _ (e .of .ensures) (c .before .enum-told6 .given .1) (c .vect-8 .ensures)) (d .give .ensures) (c .before .before .before .before .gave2 .given .1)
+
+enum-told-7 : tie.Need-enum-told-7 Inv-loop μ-loop
+enum-told-7 c = search needs
+
+time-low-requires : tie.Need-time-low-requires Inv-loop μ-loop
+time-low-requires c κs = search needs
+
+loop-less-5 : tie.Need-loop-less-5 Inv-loop μ-loop
+loop-less-5 c =
+    let d = c .before .before .before .before .before .before .before .before in
+    let e = d .before .before in
+    let i = e .before .before .before .before .before .before .loop .inv in
+    let word = found i (e .before .before .before .before .first16 .ensures) (e .before .before .next .given .1) in
+    omega (arith, word-in i (lit< tt) word)
+
+loop-again-5 : tie.Need-loop-again-5 Inv-loop μ-loop
+loop-again-5 c =
+    let d = c .before .before .before .before .before .before .before .before in
+    let e = d .before .before in
+    let i = e .before .before .before .before .before .before .loop .inv in
+    let word = found i (e .before .before .before .before .first16 .ensures) (e .before .before .next .given .1) in
+    goes-on-gave i (lit< tt) word _ (time-low-sets _ _ _ (e .of .ensures) (c .before .enum-told7 .given .1) (c .time-low .ensures)) (d .give .ensures) (c .before .before .before .before .gave2 .given .1)
+
+enum-told-8 : tie.Need-enum-told-8 Inv-loop μ-loop
+enum-told-8 c = search needs
+
+time-high-requires : tie.Need-time-high-requires Inv-loop μ-loop
+time-high-requires c κs = wraps-fit _ _ _ (c .enum-told8 .given .1) (c .before .before .before .before .before .before .before .give .ensures) (c .before .before .before .gave2 .given .1)
+
+loop-less-6 : tie.Need-loop-less-6 Inv-loop μ-loop
+loop-less-6 c =
+    let d = c .before .before .before .before .before .before .before .before in
+    let e = d .before .before in
+    let i = e .before .before .before .before .before .before .loop .inv in
+    let word = found i (e .before .before .before .before .first16 .ensures) (e .before .before .next .given .1) in
+    omega (arith, word-in i (lit< tt) word)
+
+loop-again-6 : tie.Need-loop-again-6 Inv-loop μ-loop
+loop-again-6 c =
+    let d = c .before .before .before .before .before .before .before .before in
+    let e = d .before .before in
+    let i = e .before .before .before .before .before .before .loop .inv in
+    let word = found i (e .before .before .before .before .first16 .ensures) (e .before .before .next .given .1) in
+    goes-on-gave i (lit< tt) word _ (time-high-sets _ _ _ (e .of .ensures) (c .before .enum-told8 .given .1) (c .time-high .ensures)) (d .give .ensures) (c .before .before .before .before .gave2 .given .1)
+
+loop-less-7 : tie.Need-loop-less-7 Inv-loop μ-loop
+loop-less-7 c =
+    let d = c .before .before .before .before .before .before in
+    let e = d .before .before in
+    let i = e .before .before .before .before .before .before .loop .inv in
+    let word = found i (e .before .before .before .before .first16 .ensures) (e .before .before .next .given .1) in
+    omega (arith, word-in i (lit< tt) word)
+
+loop-again-7 : tie.Need-loop-again-7 Inv-loop μ-loop
+loop-again-7 c =
+    let d = c .before .before .before .before .before .before in
+    let e = d .before .before in
+    let i = e .before .before .before .before .before .before .loop .inv in
+    let word = found i (e .before .before .before .before .first16 .ensures) (e .before .before .next .given .1) in
+    goes-on-gave i (lit< tt) word _ (stays _ _ _ (e .of .ensures) (c .match3 .keys7)) (d .give .ensures) (c .before .before .gave2 .given .1)
+
+pub read-words-spec : {M : Type 1} → statement M
+read-words-spec =
+    tie.close
+    (tie.spec
+    Inv-loop
+    μ-loop
+    fresh-requires
+    loop-holds
+    sub-first16
+    part-first16-start
+    part-first16-end
+    first16-requires
+    enum-told
+    same-length
+    returns
+    enum-told-2
+    same-length-2
+    returns-2
+    enum-known-next
+    of-requires
+    give-requires
+    enum-known-gave
+    same-length-3
+    returns-3
+    enum-known-gave-2
+    add-at
+    enum-told-3
+    addr-y-requires
+    loop-less
+    loop-again
+    enum-told-4
+    vect-base-x-requires
+    loop-less-2
+    loop-again-2
+    enum-told-5
+    vect-12-requires
+    loop-less-3
+    loop-again-3
+    enum-told-6
+    vect-8-requires
+    loop-less-4
+    loop-again-4
+    enum-told-7
+    time-low-requires
+    loop-less-5
+    loop-again-5
+    enum-told-8
+    time-high-requires
+    loop-less-6
+    loop-again-6
+    loop-less-7
+    loop-again-7)

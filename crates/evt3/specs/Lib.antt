@@ -1,0 +1,6 @@
+-- Definitions that the contracts cite, and the laws.
+pub mod Promises
+pub mod Reader
+pub mod State
+pub mod Vectors
+pub mod Words

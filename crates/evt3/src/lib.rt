@@ -1,0 +1,18 @@
+// EVT3: words of two bytes that say only what changed. Source document 003 has the layout; 01, "EVT3 words", the rules.
+//
+//     read(bytes, width, height, rows)     the rows of a stream of words, into a lent slice
+//
+// Refused: 1 too long, 14 the picture's size, then word by word 4 half a word at the end, 3 a reserved type, 7 a slave
+// camera, 5 the 1,024th wrap of the clock, 6 a pixel outside the picture, 2 no room for a word's rows. The rows finished before
+// the fault are in the slice, nothing past them is touched, and the answer has their count and the place of the word.
+//
+// The reader's state is a struct by value: for each kind of word that changes it, a method takes the word and hands back the
+// next state. specs/Words.antt says what each word does, specs/Reader.antt what any bytes give.
+mod given;
+mod kind;
+mod reader;
+mod state;
+
+pub use reader::read;
+pub use state::Known;
+pub use state::State;

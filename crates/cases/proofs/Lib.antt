@@ -1,2 +1,3 @@
--- Lemmas that more than one proof uses.
+-- Lemmas, and the cases proved (Kept).
+pub mod Kept
 pub mod Singles

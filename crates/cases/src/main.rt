@@ -1,5 +1,6 @@
 // Runs cases and writes what comes back, a line each. The file stdout beside src/ says what that must be; it is written
 // from the requirement and taken from no run.
+mod evt3_cases;
 mod row_cases;
 mod text;
 mod word_cases;
@@ -19,4 +20,5 @@ fn main() {
     row_cases::judgements();
     word_cases::reads();
     word_cases::puts();
+    evt3_cases::reads();
 }

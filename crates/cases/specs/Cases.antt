@@ -1,0 +1,109 @@
+-- The cases that 01 marks with a star, as one list: an input, and what is seen of it. So far those of the EVT3 reader.
+use mathlib.Core.Path.{_≡_}
+use Prim.Native.Nat.{ℕ}
+use mathlib.Core.List.{List, [], _∷_, _++_}
+use lib.Ieee.{Float}
+use Rattle.rows.specs.declared.event.Conversion.{Conversion}
+use Rattle.rows.specs.declared.event.Conversion.the-variants.{Turned, Refused}
+use Rattle.rows.specs.declared.event.Event.the-variants.{Pixel, Trigger, ImuCounts, ImuSingles, UsbPacket, Special}
+use Rattle.rows.specs.declared.fault.Fault.{Fault}
+use Rattle.rows.specs.declared.row.Row.{Row}
+use Rattle.rows.specs.Event.{eventOf}
+use Rattle.rows.specs.Row.{pixelRow}
+use Rattle.rows.specs.Runs.{Ending, finished, refused, Run}
+use Rattle.words.specs.Machine.{Reached}
+use Rattle.words.specs.Words.{bytesOfAll}
+use Rattle.evt3.specs.declared.state.State.{State}
+use Rattle.evt3.specs.Reader.{pictureOf, readingOf}
+use Rattle.evt3.specs.State.{fresh, withHigh, withTime, withY, withBase}
+
+-- what is read: EVT3 words, for a picture of 2,048 by 2,048
+pub data Input : Type 0 where
+  evt3 : List ℕ → Input
+
+-- how the reading ends: in a state, or by a refusal at a place
+pub data Final : Type 0 where
+  evt3Ends : State → Final
+  refusedAt : Fault → ℕ → Final
+
+-- what is seen of an input: its rows, how the reading ends, and the readings of the rows that have any
+pub record Seen : Type 0 where
+  pub rows : List Row
+  pub final : Final
+  pub readings : List Float
+
+-- an IMU row's readings as its event carries them
+abbrev pub readingsOf : Conversion → List Float
+readingsOf (Turned (Pixel t x y p)) = []
+readingsOf (Turned (Trigger t c e)) = []
+readingsOf (Turned (ImuCounts t ax ay az rx ry rz)) = ax ∷ ay ∷ az ∷ rx ∷ ry ∷ rz ∷ []
+readingsOf (Turned (ImuSingles t ax ay az rx ry rz k p)) = ax ∷ ay ∷ az ∷ rx ∷ ry ∷ rz ∷ k ∷ []
+readingsOf (Turned (UsbPacket t f n s)) = []
+readingsOf (Turned (Special t c n)) = []
+readingsOf (Refused f) = []
+
+abbrev pub allReadings : List Row → List Float
+allReadings [] = []
+allReadings (r ∷ rs) = readingsOf (eventOf r) ++ allReadings rs
+
+abbrev pub evt3Final : Ending (Reached State) → Final
+evt3Final (finished r) = evt3Ends (r .state)
+evt3Final (refused f place) = refusedAt f place
+
+abbrev pub evt3Seen : Run (Reached State) → Seen
+evt3Seen run = record { rows = run .rows; final = evt3Final (run .ending); readings = allReadings (run .rows) }
+
+-- with room for 100 rows, which no case fills
+abbrev pub seenOf : Input → Seen
+seenOf (evt3 ws) = evt3Seen (readingOf (pictureOf 2048 2048) (bytesOfAll 2 ws) 100)
+
+-- a case, and that it holds
+pub record Case : Type 0 where
+  pub input : Input
+  pub seen : Seen
+
+abbrev pub EachHolds : List Case → Type 0
+EachHolds [] = Unit {0}
+EachHolds (c ∷ cs) = (seenOf (c .input) ≡ c .seen) × EachHolds cs
+
+-- the state of an EVT3 reader after 8001 6002 0003
+abbrev pub timed : State
+timed = withY (withTime (withHigh fresh 1 0) 4098) 3
+
+abbrev pub starCases : List Case
+starCases =
+    -- one pixel
+    record {
+      input = evt3 (0x8001 ∷ 0x6002 ∷ 0x0003 ∷ 0x2805 ∷ []);
+      seen = record { rows = pixelRow 4098 5 3 1 ∷ []; final = evt3Ends timed; readings = [] };
+    }
+    -- a high part put before a last pixel: the time stays
+    ∷ record {
+      input = evt3 (0x8001 ∷ 0x6002 ∷ 0x0003 ∷ 0x2805 ∷ 0x8002 ∷ 0x2005 ∷ []);
+      seen =
+          record {
+            rows = pixelRow 4098 5 3 1 ∷ pixelRow 4098 5 3 0 ∷ [];
+            final = evt3Ends (withHigh timed 2 0);
+            readings = [];
+          };
+    }
+    -- two vectors, after which the base is 30
+    ∷ record {
+      input = evt3 (0x8001 ∷ 0x6002 ∷ 0x0003 ∷ 0x300A ∷ 0x4005 ∷ 0x5081 ∷ []);
+      seen =
+          record {
+            rows = pixelRow 4098 10 3 0 ∷ pixelRow 4098 12 3 0 ∷ pixelRow 4098 22 3 0 ∷ pixelRow 4098 29 3 0 ∷ [];
+            final = evt3Ends (withBase timed 30 0);
+            readings = [];
+          };
+    }
+    -- a wrap, without an event
+    ∷ record {
+      input = evt3 (0x8FFF ∷ 0x8000 ∷ 0x6000 ∷ []);
+      seen = record { rows = []; final = evt3Ends (withTime (withHigh fresh 0 1) 16777216); readings = [] };
+    }
+    ∷ []
+
+-- the statement
+abbrev pub StarCases : Type 0
+StarCases = EachHolds starCases

@@ -34,6 +34,12 @@ typedef struct {
 /* The event of a row of ten numbers; a length other than 10 is refused 13, a row that is not good 12. */
 fry_event fry_event_of(const uint32_t *row, size_t len);
 
+/* Reads the EVT3 words of a recording, for a picture of width by height pixels, each 1 to 2,048. Rows take ten numbers each
+ * and stand from rows[0] on; rows_len counts numbers, so that there is room for rows_len / 10 rows, rounded down. A word's
+ * rows are written all or none. What lies past the finished rows is not touched, refused or not.
+ * Refused before any word, with no rows and place 0: 1, then 14. Refused at a word, in this order: 4, 3, 7, 5, 6, 2. */
+fry_reading fry_read_evt3(const uint8_t *bytes, size_t bytes_len, uint32_t width, uint32_t height, uint32_t *rows, size_t rows_len);
+
 #ifdef __cplusplus
 }
 #endif

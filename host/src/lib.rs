@@ -3,14 +3,53 @@
 //! Nothing here decides a result: a slice is handed over, and what comes back is given a Rust type. A Rust slice is never
 //! null and a `&mut` slice overlaps no other, which is all that the interface asks of its callers.
 
+use std::error::Error;
+use std::fmt;
+
 mod sys;
 
-/// The independent implementation that tests and benchmarks compare with. No part of the library uses it.
+/// A reader written by hand for speed, which the benchmark times the library against. No part of the library uses it.
+#[doc(hidden)]
+pub mod fast;
+
+/// Made-up inputs for tests and the benchmark.
+#[doc(hidden)]
+pub mod samples;
+
+/// The independent implementation that tests compare with. No part of the library uses it.
+#[doc(hidden)]
 pub mod second;
 
 /// Why an input was refused: the number of the README's table.
 #[derive(Clone, Copy, Debug, PartialEq, Eq)]
 pub struct Refusal(pub u64);
+
+/// Why and where a reader stopped. The rows finished before stand in the lent buffer.
+#[derive(Clone, Copy, Debug, PartialEq, Eq)]
+pub struct Fault {
+    /// The rule that was broken.
+    pub refusal: Refusal,
+    /// How many rows were finished.
+    pub rows: usize,
+    /// The byte, counted from the input's start, where what is at fault begins.
+    pub place: usize,
+}
+
+impl fmt::Display for Refusal {
+    fn fmt(&self, f: &mut fmt::Formatter<'_>) -> fmt::Result {
+        write!(f, "refusal {}", self.0)
+    }
+}
+
+impl fmt::Display for Fault {
+    fn fmt(&self, f: &mut fmt::Formatter<'_>) -> fmt::Result {
+        write!(f, "{} at byte {} after {} rows", self.refusal, self.place, self.rows)
+    }
+}
+
+impl Error for Refusal {}
+
+impl Error for Fault {}
 
 /// The event of a row.
 #[derive(Clone, Copy, Debug)]
@@ -38,6 +77,29 @@ pub fn event_of(row: &[u32]) -> Result<Event, Refusal> {
         data: event.data,
         readings: event.readings,
     })
+}
+
+/// Reads EVT3 words into rows of ten numbers, for a picture of `width` by `height` pixels, and answers how many rows there are.
+/// The buffer has room for a tenth of its length, rounded down; what follows the finished rows is left as it was.
+pub fn read_evt3(bytes: &[u8], width: u32, height: u32, rows: &mut [u32]) -> Result<usize, Fault> {
+    reading(evt3_numbers(bytes, width, height, rows))
+}
+
+/// A reader's three numbers, given a Rust type.
+fn reading((refusal, rows, place): (u64, u64, u64)) -> Result<usize, Fault> {
+    let (rows, place) = (rows as usize, place as usize);
+    match refusal {
+        0 => Ok(rows),
+        _ => Err(Fault { refusal: Refusal(refusal), rows, place }),
+    }
+}
+
+/// All that `fry_read_evt3` answers, refused or not: the refusal, the finished rows and the place.
+#[doc(hidden)]
+pub fn evt3_numbers(bytes: &[u8], width: u32, height: u32, rows: &mut [u32]) -> (u64, u64, u64) {
+    // SAFETY: pointers and lengths are those of two slices, which are not null and do not overlap.
+    let reading = unsafe { sys::fry_read_evt3(bytes.as_ptr(), bytes.len(), width, height, rows.as_mut_ptr(), rows.len()) };
+    (reading.refusal, reading.rows, reading.place)
 }
 
 /// All that `fry_event_of` answers, refused or not: the refusal, kind, time, data and the bits of the readings.

@@ -1,6 +1,13 @@
 //! The declarations of `include/fryskelom.h`. Nothing compares them with the Rattle source but the tests, which reach every field.
 
 #[repr(C)]
+pub struct FryReading {
+    pub refusal: u64,
+    pub rows: u64,
+    pub place: u64,
+}
+
+#[repr(C)]
 pub struct FryEvent {
     pub refusal: u64,
     pub kind: u64,
@@ -11,4 +18,5 @@ pub struct FryEvent {
 
 extern "C" {
     pub fn fry_event_of(row: *const u32, len: usize) -> FryEvent;
+    pub fn fry_read_evt3(bytes: *const u8, bytes_len: usize, width: u32, height: u32, rows: *mut u32, rows_len: usize) -> FryReading;
 }

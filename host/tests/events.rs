@@ -1,4 +1,5 @@
 //! `fry_event_of` against the second implementation: every count, both sides of every limit, and many rows at random.
+use fryskelom::samples::Numbers;
 use fryskelom::{event_numbers, event_of, second, Refusal};
 
 /// Holds the library's answer to the second implementation's, number by number; a NaN reading is to be a NaN.
@@ -13,30 +14,6 @@ fn compare(row: &[u32]) -> u64 {
         }
     }
     refusal
-}
-
-/// Numbers that repeat from run to run.
-struct Numbers(u64);
-
-impl Numbers {
-    fn next(&mut self) -> u32 {
-        self.0 ^= self.0 << 13;
-        self.0 ^= self.0 >> 7;
-        self.0 ^= self.0 << 17;
-        (self.0 >> 16) as u32
-    }
-
-    /// A number near a limit, small, large, or any.
-    fn near(&mut self, limit: u64) -> u32 {
-        match self.next() % 8 {
-            0 => limit as u32,
-            1 | 2 => limit.wrapping_sub(1) as u32,
-            3 => 0,
-            4 => u32::MAX,
-            5 => self.next(),
-            _ => (u64::from(self.next()) % limit) as u32,
-        }
-    }
 }
 
 #[test]
@@ -116,29 +93,29 @@ fn patterns_of_singles() {
     for bits in special {
         assert_eq!(compare(&[4, 1, 2, bits, bits, bits, bits, bits, bits, bits]), 0);
     }
-    let mut numbers = Numbers(0x1234_5678_9abc_def1);
+    let mut numbers = Numbers::new(0x1234_5678_9abc_def1);
     for _ in 0..500_000 {
-        let mut row = [4, numbers.next(), numbers.next() % 4, 0, 0, 0, 0, 0, 0, 0];
-        row[3..].fill_with(|| numbers.next());
+        let mut row = [4, numbers.any(), numbers.any() % 4, 0, 0, 0, 0, 0, 0, 0];
+        row[3..].fill_with(|| numbers.any());
         assert_eq!(compare(&row), 0);
     }
 }
 
 #[test]
 fn rows_at_random() {
-    let mut numbers = Numbers(0x9e37_79b9_7f4a_7c15);
+    let mut numbers = Numbers::new(0x9e37_79b9_7f4a_7c15);
     let mut reached = [[0u32; 2]; 8];
     for _ in 0..2_000_000 {
-        let kind = numbers.next() % 8;
+        let kind = numbers.any() % 8;
         let limits = if (1..=6).contains(&kind) { second::rows::limits(kind) } else { [1; 7] };
         let mut row = [kind, 0, 0, 0, 0, 0, 0, 0, 0, 0];
         for i in 0..7 {
             // mostly within the limits, so that good rows are not rare
-            row[3 + i] = if numbers.next() % 16 == 0 { numbers.near(limits[i]) } else { (u64::from(numbers.next()) % limits[i]) as u32 };
+            row[3 + i] = if numbers.once_in(16) { numbers.near(limits[i]) } else { (u64::from(numbers.any()) % limits[i]) as u32 };
         }
-        if kind != 5 || numbers.next() % 16 == 0 {
-            row[1] = numbers.next();
-            row[2] = if numbers.next() % 16 == 0 { numbers.near(4) } else { numbers.next() % 4 };
+        if kind != 5 || numbers.once_in(16) {
+            row[1] = numbers.any();
+            row[2] = if numbers.once_in(16) { numbers.near(4) } else { numbers.any() % 4 };
         }
         let refusal = compare(&row);
         reached[kind as usize][usize::from(refusal != 0)] += 1;

@@ -20,12 +20,24 @@ static void show(const uint32_t *row, size_t len) {
     printf("\n");
 }
 
+static void show_reading(const uint8_t *bytes, size_t len) {
+    uint32_t rows[20];
+    for (int i = 0; i < 20; i++) rows[i] = 7;
+    fry_reading r = fry_read_evt3(bytes, len, 1280, 720, rows, 20);
+    printf("%" PRIu64 " %" PRIu64 " %" PRIu64, r.refusal, r.rows, r.place);
+    for (int i = 0; i < 20; i++) printf(" %" PRIu32, rows[i]);
+    printf("\n");
+}
+
 int main(void) {
     const uint32_t imu[10] = {3, 7, 1, 16384, 32768, 0, 131, 65405, 262, 0};
     const uint32_t bad[10] = {2, 7, 1, 32, 1, 0, 0, 0, 0, 0};
     show(imu, 10);
     show(bad, 10);
     show(imu, 9);
+    const uint8_t words[10] = {0x01, 0x80, 0x02, 0x60, 0x03, 0x00, 0x05, 0x28, 0x00, 0x10};
+    show_reading(words, 8);
+    show_reading(words, 10);
     return sizeof(fry_reading) == 24 && sizeof(fry_writing) == 16 ? 0 : 1;
 }
 "#;
@@ -34,6 +46,8 @@ const EXPECTED: &str = "\
 0 3 4294967303 16384 32768 0 131 65405 262 0 3f800000 c0000000 00000000 3f800000 bf800000 40000000 00000000
 12 0 0 0 0 0 0 0 0 0 00000000 00000000 00000000 00000000 00000000 00000000 00000000
 13 0 0 0 0 0 0 0 0 0 00000000 00000000 00000000 00000000 00000000 00000000 00000000
+0 1 0 1 4098 0 5 3 1 0 0 0 0 7 7 7 7 7 7 7 7 7 7
+3 1 8 1 4098 0 5 3 1 0 0 0 0 7 7 7 7 7 7 7 7 7 7
 ";
 
 #[test]

@@ -1,0 +1,146 @@
+//! EVT3 recordings as a camera sends them.
+use super::Numbers;
+
+/// Width and height in pixels.
+pub type Picture = (u32, u32);
+
+/// What a camera sees.
+#[derive(Clone, Copy, Debug)]
+pub enum Scene {
+    /// A few moving points: nearly every event is a word of its own.
+    Pixels,
+    /// Light that changes everywhere: vectors with most bits set.
+    Dense,
+    /// Thin lines: vectors with one to three bits set.
+    Sparse,
+    /// All of these in turn, with triggers and words that carry no event.
+    Mixed,
+}
+
+/// A recording of at least so many events, whose clock starts at a time in microseconds.
+pub fn recording(scene: Scene, picture: Picture, start: u64, events: usize, numbers: &mut Numbers) -> Vec<u8> {
+    let mut camera = Camera::new(start);
+    while camera.events < events {
+        let pause = if numbers.once_in(64) { 40 } else { 2 };
+        camera.wait(1 + u64::from(numbers.below(pause)));
+        camera.see(scene, picture, numbers);
+    }
+    camera.bytes()
+}
+
+/// The bytes of words.
+pub fn bytes_of(words: &[u16]) -> Vec<u8> {
+    words.iter().flat_map(|word| word.to_le_bytes()).collect()
+}
+
+/// A camera that sends only what has changed, and its time base again and again.
+struct Camera {
+    words: Vec<u16>,
+    time: u64,
+    y: Option<u32>,
+    events: usize,
+}
+
+impl Camera {
+    fn new(time: u64) -> Camera {
+        let mut camera = Camera { words: vec![], time, y: None, events: 0 };
+        camera.time_high(time);
+        camera.time_low(time);
+        camera
+    }
+
+    fn bytes(self) -> Vec<u8> {
+        bytes_of(&self.words)
+    }
+
+    /// Lets time pass. The high part comes every 16 us, changed or not.
+    fn wait(&mut self, microseconds: u64) {
+        let until = self.time + microseconds;
+        for tick in self.time / 16 + 1..=until / 16 {
+            self.time_high(16 * tick);
+        }
+        self.time_low(until);
+        self.time = until;
+    }
+
+    fn see(&mut self, scene: Scene, picture: Picture, numbers: &mut Numbers) {
+        match scene {
+            Scene::Pixels => self.points(picture, numbers),
+            Scene::Dense => self.line(picture, |numbers| numbers.any() | numbers.any() | numbers.any(), numbers),
+            Scene::Sparse => self.line(picture, sparse_bits, numbers),
+            Scene::Mixed => match numbers.below(32) {
+                0 => self.trigger(numbers.below(16), numbers.below(2)),
+                1 => self.others(numbers),
+                2..=4 => self.see(Scene::Dense, picture, numbers),
+                5..=12 => self.see(Scene::Sparse, picture, numbers),
+                _ => self.see(Scene::Pixels, picture, numbers),
+            },
+        }
+    }
+
+    /// One to three times, one to eight single pixels of a line.
+    fn points(&mut self, (width, height): Picture, numbers: &mut Numbers) {
+        for _ in 0..=numbers.below(3) {
+            self.addr_y(numbers.below(height));
+            for _ in 0..=numbers.below(8) {
+                self.word(0x2, numbers.below(2) << 11 | numbers.below(width));
+                self.events += 1;
+            }
+        }
+    }
+
+    /// One to four stretches of 32 columns of a line, each as a base, two vectors of 12 and one of 8.
+    fn line(&mut self, (width, height): Picture, bits: fn(&mut Numbers) -> u32, numbers: &mut Numbers) {
+        self.addr_y(numbers.below(height));
+        for _ in 0..=numbers.below(4) {
+            let x = 32 * numbers.below(width.div_ceil(32));
+            let inside = u32::MAX >> 32u32.saturating_sub(width - x);
+            let bits = bits(numbers) & inside;
+            self.word(0x3, numbers.below(2) << 11 | x);
+            self.word(0x4, bits & 0xfff);
+            self.word(0x4, bits >> 12 & 0xfff);
+            self.word(0x5, bits >> 24);
+            self.events += bits.count_ones() as usize;
+        }
+    }
+
+    fn trigger(&mut self, channel: u32, edge: u32) {
+        self.word(0xa, channel << 8 | edge);
+        self.events += 1;
+    }
+
+    /// A word of another sort, continued by up to three more.
+    fn others(&mut self, numbers: &mut Numbers) {
+        self.word(0xe, numbers.below(4_096));
+        for _ in 0..numbers.below(4) {
+            let kind = numbers.one_of(&[0x7, 0xf]);
+            self.word(kind, numbers.below(4_096));
+        }
+    }
+
+    fn addr_y(&mut self, y: u32) {
+        if self.y != Some(y) {
+            self.word(0x0, y);
+            self.y = Some(y);
+        }
+    }
+
+    fn time_high(&mut self, time: u64) {
+        self.word(0x8, (time / 4_096 % 4_096) as u32);
+    }
+
+    fn time_low(&mut self, time: u64) {
+        self.word(0x6, (time % 4_096) as u32);
+    }
+
+    fn word(&mut self, kind: u16, data: u32) {
+        self.words.push(kind << 12 | data as u16);
+    }
+}
+
+/// One to three set bits in each of the three vectors of 32 columns.
+fn sparse_bits(numbers: &mut Numbers) -> u32 {
+    let vector =
+        |first: u32, columns: u32, numbers: &mut Numbers| (0..=numbers.below(3)).fold(0, |bits, _| bits | 1 << (first + numbers.below(columns)));
+    vector(0, 12, numbers) | vector(12, 12, numbers) | vector(24, 8, numbers)
+}

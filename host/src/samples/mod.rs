@@ -1,0 +1,49 @@
+//! Inputs made up for tests and the benchmark; the same ones in every run.
+
+pub mod evt3;
+
+/// Numbers that look random and repeat from run to run.
+pub struct Numbers(u64);
+
+impl Numbers {
+    /// The numbers that follow from a seed, which is not 0.
+    pub fn new(seed: u64) -> Numbers {
+        assert_ne!(seed, 0, "from 0 only zeros follow");
+        Numbers(seed)
+    }
+
+    /// Any number of 32 bits.
+    pub fn any(&mut self) -> u32 {
+        self.0 ^= self.0 << 13;
+        self.0 ^= self.0 >> 7;
+        self.0 ^= self.0 << 17;
+        (self.0 >> 16) as u32
+    }
+
+    /// A number below a limit.
+    pub fn below(&mut self, limit: u32) -> u32 {
+        self.any() % limit
+    }
+
+    /// True once in so many times.
+    pub fn once_in(&mut self, times: u32) -> bool {
+        self.below(times) == 0
+    }
+
+    /// One of the given values.
+    pub fn one_of<T: Copy>(&mut self, values: &[T]) -> T {
+        values[self.any() as usize % values.len()]
+    }
+
+    /// A number near a limit, small, large, or any.
+    pub fn near(&mut self, limit: u64) -> u32 {
+        match self.any() % 8 {
+            0 => limit as u32,
+            1 | 2 => limit.wrapping_sub(1) as u32,
+            3 => 0,
+            4 => u32::MAX,
+            5 => self.any(),
+            _ => (u64::from(self.any()) % limit) as u32,
+        }
+    }
+}

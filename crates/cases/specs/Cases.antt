@@ -1,14 +1,15 @@
 -- The cases that 01 marks with a star, as one list: an input, and what is seen of it. So far those of the EVT3 reader.
 use mathlib.Core.Path.{_≡_}
 use Prim.Native.Nat.{ℕ}
+use mathlib.Core.Bool.{cond}
 use mathlib.Core.List.{List, [], _∷_, _++_}
+use lib.Dec.{eqb}
 use lib.Ieee.{Float}
 use Rattle.rows.specs.declared.event.Conversion.{Conversion}
 use Rattle.rows.specs.declared.event.Conversion.the-variants.{Turned, Refused}
-use Rattle.rows.specs.declared.event.Event.the-variants.{Pixel, Trigger, ImuCounts, ImuSingles, UsbPacket, Special}
 use Rattle.rows.specs.declared.fault.Fault.{Fault}
 use Rattle.rows.specs.declared.row.Row.{Row}
-use Rattle.rows.specs.Event.{eventOf}
+use Rattle.rows.specs.Event.{eventOf, readingsOf}
 use Rattle.rows.specs.Row.{pixelRow}
 use Rattle.rows.specs.Runs.{Ending, finished, refused, Run}
 use Rattle.words.specs.Machine.{Reached}
@@ -32,19 +33,17 @@ pub record Seen : Type 0 where
   pub final : Final
   pub readings : List Float
 
--- an IMU row's readings as its event carries them
-abbrev pub readingsOf : Conversion → List Float
-readingsOf (Turned (Pixel t x y p)) = []
-readingsOf (Turned (Trigger t c e)) = []
-readingsOf (Turned (ImuCounts t ax ay az rx ry rz)) = ax ∷ ay ∷ az ∷ rx ∷ ry ∷ rz ∷ []
-readingsOf (Turned (ImuSingles t ax ay az rx ry rz k p)) = ax ∷ ay ∷ az ∷ rx ∷ ry ∷ rz ∷ k ∷ []
-readingsOf (Turned (UsbPacket t f n s)) = []
-readingsOf (Turned (Special t c n)) = []
-readingsOf (Refused f) = []
+-- the readings of an IMU row, kind 3 or 4, as its event carries them; no other row has any
+abbrev pub eventReadings : Conversion → List Float
+eventReadings (Turned e) = readingsOf e
+eventReadings (Refused f) = []
+
+abbrev pub rowReadings : Row → List Float
+rowReadings r = cond (eqb (r .kind) 3) (eventReadings (eventOf r)) (cond (eqb (r .kind) 4) (eventReadings (eventOf r)) [])
 
 abbrev pub allReadings : List Row → List Float
 allReadings [] = []
-allReadings (r ∷ rs) = readingsOf (eventOf r) ++ allReadings rs
+allReadings (r ∷ rs) = rowReadings r ++ allReadings rs
 
 abbrev pub evt3Final : Ending (Reached State) → Final
 evt3Final (finished r) = evt3Ends (r .state)

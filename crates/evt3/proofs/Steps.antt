@@ -26,10 +26,13 @@ use Rattle.evt3.proofs.kind.Kind.{the-type}
 abbrev others : List ℕ
 others = 1 ∷ 6 ∷ 8 ∷ 9 ∷ 10 ∷ 11 ∷ []
 
+-- the step of a word of kind k in two parts, s′ being the next state
+abbrev pub InParts : Kind → Picture → State → ℕ → State → Type 0
+InParts k p s w s′ = step p s w ≡ onto (givenOf (stepAs k p s w)) s′
+
 module _ (p : Picture) (s : State) (w : ℕ) {k : Kind} (is : k ≡ kindOf w) where
-  -- the step in two parts, s′ being the next state
-  abbrev pub Parts : State → Type 0
-  Parts s′ = step p s w ≡ onto (givenOf (stepAs k p s w)) s′
+  abbrev Parts : State → Type 0
+  Parts = InParts k p s w
 
   at-kind : step p s w ≡ stepAs k p s w
   unfolding step

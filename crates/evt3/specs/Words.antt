@@ -89,7 +89,7 @@ unfoldable pub columns : ℕ → ℕ → ℕ → List ℕ
 columns zero x bits = []
 columns (suc n) x bits = cond (eqb (bits % 2) 1) (x ∷ []) [] ++ columns n (x + 1) (bits / 2)
 
--- a pixel for each set bit of a vector, from the base on, if time, Y and base are known
+-- a pixel for each set bit of a vector, which has twelve at most, from the base on, if time, Y and base are known
 unfoldable pub vectorOf : Picture → State → ℕ → Given
 vectorOf p s bits =
     cond (s .known .time && s .known .y && s .known .base)

@@ -3,9 +3,9 @@ use mathlib.Core.Path.{_≡_, refl, sym, _∙_, ap}
 use Prim.Native.Nat.{ℕ, _+_, _-_}
 use native.Mathlib.Omega.{arith}
 use mathlib.Core.Bool.{Bool, true, false, cond}
-use mathlib.Core.List.{List, [], _++_, append-assoc, append-nil}
+use mathlib.Core.List.{List, _++_, append-assoc, append-nil}
 use lib.ListN.{length, length-append}
-use lib.Dec.{leb, leb·zero}
+use lib.Dec.{leb}
 use Rattle.rows.specs.declared.fault.Fault.the-variants.{NoRoom}
 use Rattle.rows.specs.declared.row.Row.{Row}
 use Rattle.rows.specs.Runs.{Ending, finished, refused, Run, prepend, stopped, give, resume, andThen}
@@ -40,9 +40,3 @@ module _ {S T : Type 0} (new : List Row) where
 pub give-same : {S : Type 0} (new : List Row) (place room : ℕ) (rest rest′ : ℕ → Run S) → rest (room - length new) ≡ rest′ (room - length new)
     → give new place room rest ≡ give new place room rest′
 give-same {S} new place room rest rest′ e = ap (λ (r : Run S). cond (leb (length new) room) (prepend new r) (stopped (refused NoRoom place))) e
-
--- no row always fits
-pub give-none : {S : Type 0} (place room : ℕ) (rest : ℕ → Run S) → give [] place room rest ≡ rest room
-give-none place room rest =
-    let all : room - 0 ≡ room = omega arith in
-    simp (leb·zero room) (ap rest all)

@@ -1,15 +1,21 @@
 -- `evt3::reader::read_words` meets its contract.
-use mathlib.Core.Path.{refl, _∙_}
-use Prim.Native.Nat.{_-_}
+use mathlib.Core.Path.{_≡_, refl, _∙_}
+use Prim.Native.Nat.{ℕ, _+_, _-_, _≤_}
+use mathlib.Core.List.{List}
 use native.Mathlib.Omega.{arith}
 use borrow.Author.Needs.{needs}
 use lib.ListN.{length}
 use lib.Dec.{lit<}
+use Rattle.words.specs.declared.Gave.the-variants.{Rows}
+use Rattle.words.specs.declared.Next.the-variants.{Word}
+use Rattle.words.specs.declared.picture.Picture.{Picture}
+use Rattle.words.specs.Words.{nextAt}
 use Rattle.words.proofs.Between.{Between, between-start, between-length, between-room, found, ends-whole, ends-part, word-in, goes-on-gave, ends-gave}
 use Rattle.words.proofs.Wrote.{gave-length}
+use Rattle.evt3.specs.declared.state.State.{State}
 use Rattle.evt3.specs.State.{fresh}
 use Rattle.evt3.specs.Reader.{machine}
-use Rattle.evt3.proofs.Steps.{any-parts, addr-y-sets, vect-base-x-sets, vect-12-moves, vect-8-moves, time-low-sets, time-high-sets, stays, wraps-fit}
+use Rattle.evt3.proofs.Steps.{InParts, any-parts, addr-y-sets, vect-base-x-sets, vect-12-moves, vect-8-moves, time-low-sets, time-high-sets, stays, wraps-fit}
 use Rattle.evt3.proofs.reader.read_words.Statement.{statement}
 use Rattle.evt3.proofs.reader.read_words.Tie as tie
 
@@ -18,6 +24,36 @@ Inv-loop bytes picture rows₀ state₀ at₀ n₀ rows state at n = Between (ma
 
 abbrev μ-loop : tie.MeasureT-loop
 μ-loop bytes picture rows₀ state₀ at₀ n₀ rows state at n = length bytes - at
+
+-- where a word was found, and its rows were given
+abbrev Gave-place : Type 0
+Gave-place = tie.After-give Inv-loop μ-loop
+
+abbrev bytes : Gave-place → List ℕ
+bytes d = d .before .before .before .before .before .before .before .before .before .before .before .before .args .bytes .now
+
+abbrev place : Gave-place → ℕ
+place d = d .before .before .before .before .before .before .before .before .loop .at
+
+abbrev state : Gave-place → State
+state d = d .before .before .before .before .before .before .before .before .loop .state
+
+abbrev picture : Gave-place → Picture
+picture d = d .before .before .before .before .before .before .before .before .before .before .before .before .args .picture
+
+abbrev w : Gave-place → ℕ
+w d = d .before .before .before .before .next .given .0 .0
+
+word : (d : Gave-place) → Word (w d) ≡ nextAt 2 (bytes d) (place d)
+word d = found (d .before .before .before .before .before .before .before .before .loop .inv) (d .before .before .before .before .before .before .first16 .ensures) (d .before .before .before .before .next .given .1)
+
+word-fits : (d : Gave-place) → place d + 2 ≤ length (bytes d)
+word-fits d = word-in (d .before .before .before .before .before .before .before .before .loop .inv) (lit< tt) (word d)
+
+-- the invariant after it, with the state that it leads to
+after-word : (d : Gave-place) {s′ : State} {count : ℕ} → InParts (d .before .before .of .result) (picture d) (state d) (w d) s′ → d .give .result ≡ Rows count
+    → Between (machine (picture d)) (bytes d) fresh 0 (d .before .before .before .before .before .before .before .before .before .before .before .before .args .rows .now) s′ (place d + 2) count (d .give .last .1 .1 .1 .1 .0)
+after-word d parts gave = goes-on-gave (d .before .before .before .before .before .before .before .before .loop .inv) (lit< tt) (word d) _ parts (d .give .ensures) gave
 
 fresh-requires : tie.Need-fresh-requires Inv-loop μ-loop
 fresh-requires c κs = search needs
@@ -79,21 +115,13 @@ same-length-3 c =
 returns-3 : tie.Need-returns-3 Inv-loop μ-loop
 returns-3 c =
     let d = c .before .before .before .before .before in
-    let e = d .before .before in
-    let i = e .before .before .before .before .before .before .loop .inv in
-    let word = found i (e .before .before .before .before .first16 .ensures) (e .before .before .next .given .1) in
-    ends-gave i (lit< tt) word _ (any-parts _ _ _ (e .of .ensures)) refl (d .give .ensures) (c .before .gave .given .1)
+    ends-gave (d .before .before .before .before .before .before .before .before .loop .inv) (lit< tt) (word d) _ (any-parts _ _ _ (d .before .before .of .ensures)) refl (d .give .ensures) (c .before .gave .given .1)
 
 enum-known-gave-2 : tie.Need-enum-known-gave-2 Inv-loop μ-loop
 enum-known-gave-2 c = search needs
 
 add-at : tie.Need-add-at Inv-loop μ-loop
-add-at c =
-    let d = c .before .before .before .before .before in
-    let e = d .before .before in
-    let i = e .before .before .before .before .before .before .loop .inv in
-    let word = found i (e .before .before .before .before .first16 .ensures) (e .before .before .next .given .1) in
-    omega (arith, word-in i (lit< tt) word, e .before .before .before .before .before .before .before .before .before .before .good)
+add-at c = omega (arith, word-fits (c .before .before .before .before .before), c .before .before .before .before .before .before .before .before .before .before .before .before .before .before .before .before .before .good)
 
 enum-told-3 : tie.Need-enum-told-3 Inv-loop μ-loop
 enum-told-3 c = search needs
@@ -102,20 +130,12 @@ addr-y-requires : tie.Need-addr-y-requires Inv-loop μ-loop
 addr-y-requires c κs = search needs
 
 loop-less : tie.Need-loop-less Inv-loop μ-loop
-loop-less c =
-    let d = c .before .before .before .before .before .before .before .before in
-    let e = d .before .before in
-    let i = e .before .before .before .before .before .before .loop .inv in
-    let word = found i (e .before .before .before .before .first16 .ensures) (e .before .before .next .given .1) in
-    omega (arith, word-in i (lit< tt) word)
+loop-less c = omega (arith, word-fits (c .before .before .before .before .before .before .before .before))
 
 loop-again : tie.Need-loop-again Inv-loop μ-loop
 loop-again c =
     let d = c .before .before .before .before .before .before .before .before in
-    let e = d .before .before in
-    let i = e .before .before .before .before .before .before .loop .inv in
-    let word = found i (e .before .before .before .before .first16 .ensures) (e .before .before .next .given .1) in
-    goes-on-gave i (lit< tt) word _ (addr-y-sets _ _ _ (e .of .ensures) (c .before .enum-told3 .given .1) (c .addr-y .ensures)) (d .give .ensures) (c .before .before .before .before .gave2 .given .1)
+    after-word d (addr-y-sets _ _ _ (d .before .before .of .ensures) (c .before .enum-told3 .given .1) (c .addr-y .ensures)) (c .before .before .before .before .gave2 .given .1)
 
 enum-told-4 : tie.Need-enum-told-4 Inv-loop μ-loop
 enum-told-4 c = search needs
@@ -124,20 +144,12 @@ vect-base-x-requires : tie.Need-vect-base-x-requires Inv-loop μ-loop
 vect-base-x-requires c κs = search needs
 
 loop-less-2 : tie.Need-loop-less-2 Inv-loop μ-loop
-loop-less-2 c =
-    let d = c .before .before .before .before .before .before .before .before in
-    let e = d .before .before in
-    let i = e .before .before .before .before .before .before .loop .inv in
-    let word = found i (e .before .before .before .before .first16 .ensures) (e .before .before .next .given .1) in
-    omega (arith, word-in i (lit< tt) word)
+loop-less-2 c = omega (arith, word-fits (c .before .before .before .before .before .before .before .before))
 
 loop-again-2 : tie.Need-loop-again-2 Inv-loop μ-loop
 loop-again-2 c =
     let d = c .before .before .before .before .before .before .before .before in
-    let e = d .before .before in
-    let i = e .before .before .before .before .before .before .loop .inv in
-    let word = found i (e .before .before .before .before .first16 .ensures) (e .before .before .next .given .1) in
-    goes-on-gave i (lit< tt) word _ (vect-base-x-sets _ _ _ (e .of .ensures) (c .before .enum-told4 .given .1) (c .vect-base-x .ensures)) (d .give .ensures) (c .before .before .before .before .gave2 .given .1)
+    after-word d (vect-base-x-sets _ _ _ (d .before .before .of .ensures) (c .before .enum-told4 .given .1) (c .vect-base-x .ensures)) (c .before .before .before .before .gave2 .given .1)
 
 enum-told-5 : tie.Need-enum-told-5 Inv-loop μ-loop
 enum-told-5 c = search needs
@@ -146,20 +158,12 @@ vect-12-requires : tie.Need-vect-12-requires Inv-loop μ-loop
 vect-12-requires c κs = search needs
 
 loop-less-3 : tie.Need-loop-less-3 Inv-loop μ-loop
-loop-less-3 c =
-    let d = c .before .before .before .before .before .before .before .before in
-    let e = d .before .before in
-    let i = e .before .before .before .before .before .before .loop .inv in
-    let word = found i (e .before .before .before .before .first16 .ensures) (e .before .before .next .given .1) in
-    omega (arith, word-in i (lit< tt) word)
+loop-less-3 c = omega (arith, word-fits (c .before .before .before .before .before .before .before .before))
 
 loop-again-3 : tie.Need-loop-again-3 Inv-loop μ-loop
 loop-again-3 c =
     let d = c .before .before .before .before .before .before .before .before in
-    let e = d .before .before in
-    let i = e .before .before .before .before .before .before .loop .inv in
-    let word = found i (e .before .before .before .before .first16 .ensures) (e .before .before .next .given .1) in
-    goes-on-gave i (lit< tt) word _ (vect-12-moves _ _ _ (e .of .ensures) (c .before .enum-told5 .given .1) (c .vect-12 .ensures)) (d .give .ensures) (c .before .before .before .before .gave2 .given .1)
+    after-word d (vect-12-moves _ _ _ (d .before .before .of .ensures) (c .before .enum-told5 .given .1) (c .vect-12 .ensures)) (c .before .before .before .before .gave2 .given .1)
 
 enum-told-6 : tie.Need-enum-told-6 Inv-loop μ-loop
 enum-told-6 c = search needs
@@ -168,20 +172,12 @@ vect-8-requires : tie.Need-vect-8-requires Inv-loop μ-loop
 vect-8-requires c κs = search needs
 
 loop-less-4 : tie.Need-loop-less-4 Inv-loop μ-loop
-loop-less-4 c =
-    let d = c .before .before .before .before .before .before .before .before in
-    let e = d .before .before in
-    let i = e .before .before .before .before .before .before .loop .inv in
-    let word = found i (e .before .before .before .before .first16 .ensures) (e .before .before .next .given .1) in
-    omega (arith, word-in i (lit< tt) word)
+loop-less-4 c = omega (arith, word-fits (c .before .before .before .before .before .before .before .before))
 
 loop-again-4 : tie.Need-loop-again-4 Inv-loop μ-loop
 loop-again-4 c =
     let d = c .before .before .before .before .before .before .before .before in
-    let e = d .before .before in
-    let i = e .before .before .before .before .before .before .loop .inv in
-    let word = found i (e .before .before .before .before .first16 .ensures) (e .before .before .next .given .1) in
-    goes-on-gave i (lit< tt) word _ (vect-8-moves _ _ _ (e .of .ensures) (c .before .enum-told6 .given .1) (c .vect-8 .ensures)) (d .give .ensures) (c .before .before .before .before .gave2 .given .1)
+    after-word d (vect-8-moves _ _ _ (d .before .before .of .ensures) (c .before .enum-told6 .given .1) (c .vect-8 .ensures)) (c .before .before .before .before .gave2 .given .1)
 
 enum-told-7 : tie.Need-enum-told-7 Inv-loop μ-loop
 enum-told-7 c = search needs
@@ -190,20 +186,12 @@ time-low-requires : tie.Need-time-low-requires Inv-loop μ-loop
 time-low-requires c κs = search needs
 
 loop-less-5 : tie.Need-loop-less-5 Inv-loop μ-loop
-loop-less-5 c =
-    let d = c .before .before .before .before .before .before .before .before in
-    let e = d .before .before in
-    let i = e .before .before .before .before .before .before .loop .inv in
-    let word = found i (e .before .before .before .before .first16 .ensures) (e .before .before .next .given .1) in
-    omega (arith, word-in i (lit< tt) word)
+loop-less-5 c = omega (arith, word-fits (c .before .before .before .before .before .before .before .before))
 
 loop-again-5 : tie.Need-loop-again-5 Inv-loop μ-loop
 loop-again-5 c =
     let d = c .before .before .before .before .before .before .before .before in
-    let e = d .before .before in
-    let i = e .before .before .before .before .before .before .loop .inv in
-    let word = found i (e .before .before .before .before .first16 .ensures) (e .before .before .next .given .1) in
-    goes-on-gave i (lit< tt) word _ (time-low-sets _ _ _ (e .of .ensures) (c .before .enum-told7 .given .1) (c .time-low .ensures)) (d .give .ensures) (c .before .before .before .before .gave2 .given .1)
+    after-word d (time-low-sets _ _ _ (d .before .before .of .ensures) (c .before .enum-told7 .given .1) (c .time-low .ensures)) (c .before .before .before .before .gave2 .given .1)
 
 enum-told-8 : tie.Need-enum-told-8 Inv-loop μ-loop
 enum-told-8 c = search needs
@@ -212,36 +200,20 @@ time-high-requires : tie.Need-time-high-requires Inv-loop μ-loop
 time-high-requires c κs = wraps-fit _ _ _ (c .enum-told8 .given .1) (c .before .before .before .before .before .before .before .give .ensures) (c .before .before .before .gave2 .given .1)
 
 loop-less-6 : tie.Need-loop-less-6 Inv-loop μ-loop
-loop-less-6 c =
-    let d = c .before .before .before .before .before .before .before .before in
-    let e = d .before .before in
-    let i = e .before .before .before .before .before .before .loop .inv in
-    let word = found i (e .before .before .before .before .first16 .ensures) (e .before .before .next .given .1) in
-    omega (arith, word-in i (lit< tt) word)
+loop-less-6 c = omega (arith, word-fits (c .before .before .before .before .before .before .before .before))
 
 loop-again-6 : tie.Need-loop-again-6 Inv-loop μ-loop
 loop-again-6 c =
     let d = c .before .before .before .before .before .before .before .before in
-    let e = d .before .before in
-    let i = e .before .before .before .before .before .before .loop .inv in
-    let word = found i (e .before .before .before .before .first16 .ensures) (e .before .before .next .given .1) in
-    goes-on-gave i (lit< tt) word _ (time-high-sets _ _ _ (e .of .ensures) (c .before .enum-told8 .given .1) (c .time-high .ensures)) (d .give .ensures) (c .before .before .before .before .gave2 .given .1)
+    after-word d (time-high-sets _ _ _ (d .before .before .of .ensures) (c .before .enum-told8 .given .1) (c .time-high .ensures)) (c .before .before .before .before .gave2 .given .1)
 
 loop-less-7 : tie.Need-loop-less-7 Inv-loop μ-loop
-loop-less-7 c =
-    let d = c .before .before .before .before .before .before in
-    let e = d .before .before in
-    let i = e .before .before .before .before .before .before .loop .inv in
-    let word = found i (e .before .before .before .before .first16 .ensures) (e .before .before .next .given .1) in
-    omega (arith, word-in i (lit< tt) word)
+loop-less-7 c = omega (arith, word-fits (c .before .before .before .before .before .before))
 
 loop-again-7 : tie.Need-loop-again-7 Inv-loop μ-loop
 loop-again-7 c =
     let d = c .before .before .before .before .before .before in
-    let e = d .before .before in
-    let i = e .before .before .before .before .before .before .loop .inv in
-    let word = found i (e .before .before .before .before .first16 .ensures) (e .before .before .next .given .1) in
-    goes-on-gave i (lit< tt) word _ (stays _ _ _ (e .of .ensures) (c .match3 .keys7)) (d .give .ensures) (c .before .before .gave2 .given .1)
+    after-word d (stays _ _ _ (d .before .before .of .ensures) (c .match3 .keys7)) (c .before .before .gave2 .given .1)
 
 pub read-words-spec : {M : Type 1} → statement M
 read-words-spec =

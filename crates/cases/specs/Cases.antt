@@ -15,7 +15,8 @@ use Rattle.rows.specs.Runs.{Ending, finished, refused, Run}
 use Rattle.words.specs.Machine.{Reached}
 use Rattle.words.specs.Words.{bytesOfAll}
 use Rattle.evt3.specs.declared.state.State.{State}
-use Rattle.evt3.specs.Reader.{pictureOf, readingOf}
+use Rattle.words.specs.Picture.{pictureOf}
+use Rattle.evt3.specs.Reader.{readingOf}
 use Rattle.evt3.specs.State.{fresh, withHigh, withTime, withY, withBase}
 
 -- what is read: EVT3 words, for a picture of 2,048 by 2,048

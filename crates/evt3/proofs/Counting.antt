@@ -8,7 +8,7 @@ use lib.ListN.{length}
 use lib.Seq.{sets}
 use Rattle.rows.specs.declared.fault.Fault.the-variants as refusal
 use Rattle.rows.specs.Row.{flat, roomOf}
-use Rattle.words.specs.declared.Gave.the-variants.{Rows, Refused}
+use Rattle.words.specs.declared.Gave.the-variants.{Rows, Full, Refused}
 use Rattle.words.specs.declared.picture.Picture.{Picture}
 use Rattle.words.specs.Written.{GaveAs}
 use Rattle.words.specs.Picture.{inPicture}
@@ -104,7 +104,7 @@ module _ (p : Picture) (s : State) (polarity : ℕ) (xs : List ℕ) (n : ℕ) {o
   pixels-outside e = rw (counted-none p (s .y) xs e) (gave-refused refusal.Outside n old)
 
   pub pixels-full : {count : ℕ} → counted p (s .y) xs ≡ Pixels count → roomOf old < n + count
-      → GaveAs (pixels p s polarity xs) n old old (Refused refusal.NoRoom)
+      → GaveAs (pixels p s polarity xs) n old old Full
   unfolding pixels
   pixels-full e h =
       let all = counted-all p (s .y) xs e in

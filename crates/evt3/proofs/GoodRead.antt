@@ -11,12 +11,12 @@ use Rattle.rows.specs.Rules.{AllGood}
 use Rattle.rows.proofs.GoodRows.{pixel-good, trigger-good}
 use Rattle.words.specs.declared.picture.Picture.{Picture}
 use Rattle.words.specs.Fields.{field}
-use Rattle.words.specs.Machine.{Outcome, next, fault, Given, gives, refuses, onto, Keeps}
+use Rattle.words.specs.Machine.{Outcome, next, fault, Given, gives, refuses, refusedIf, onto, Keeps}
 use Rattle.evt3.specs.declared.kind.Kind.{Kind}
 use Rattle.evt3.specs.declared.kind.Kind.the-variants.{AddrY, AddrX, VectBaseX, Vect12, Vect8, TimeLow, Continued4, TimeHigh, ExtTrigger, Others, Continued12, Reserved}
 use Rattle.evt3.specs.declared.state.State.{State}
 use Rattle.evt3.specs.State.{fresh, withTime, withBase, moved}
-use Rattle.evt3.specs.Words.{kindOf, wrapsAt, refusedIf, withLow, pixelsAt, allIn, pixels, pixelOf, columns, vectorOf, triggerOf, stepAs, step}
+use Rattle.evt3.specs.Words.{kindOf, wrapsAt, withLow, pixelsAt, allIn, pixels, pixelOf, columns, vectorOf, triggerOf, stepAs, step}
 use Rattle.evt3.specs.Reader.{machine}
 
 -- the limits of a state

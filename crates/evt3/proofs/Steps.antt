@@ -12,14 +12,14 @@ use Rattle.rows.specs.declared.fault.Fault.the-variants as refusal
 use Rattle.words.specs.declared.Gave.{Gave}
 use Rattle.words.specs.declared.Gave.the-variants.{Rows}
 use Rattle.words.specs.declared.picture.Picture.{Picture}
-use Rattle.words.specs.Machine.{Given, gives, refuses, onto}
+use Rattle.words.specs.Machine.{Given, gives, refuses, refusedIf, onto}
 use Rattle.words.specs.Written.{givenOf, GaveAs}
 use Rattle.words.proofs.Wrote.{given-onto, nextOf, onto-given, no-refused-rows}
 use Rattle.evt3.specs.declared.kind.Kind.{Kind}
 use Rattle.evt3.specs.declared.kind.Kind.the-variants.{AddrY, AddrX, VectBaseX, Vect12, Vect8, TimeLow, Continued4, TimeHigh, ExtTrigger, Others, Continued12, Reserved}
 use Rattle.evt3.specs.declared.state.State.{State}
 use Rattle.evt3.specs.State.{withHigh, withY, withBase, moved}
-use Rattle.evt3.specs.Words.{kindOf, wrapsAt, refusedIf, withLow, pixelOf, vectorOf, triggerOf, stepAs, step}
+use Rattle.evt3.specs.Words.{kindOf, wrapsAt, withLow, pixelOf, vectorOf, triggerOf, stepAs, step}
 use Rattle.evt3.proofs.kind.Kind.{the-type}
 
 -- ADDR_X, CONTINUED_4, EXT_TRIGGER, OTHERS, CONTINUED_12 and the reserved ones

@@ -3,13 +3,12 @@ use Prim.Native.Nat.{ℕ, zero, suc, _+_, _*_, _/_, _%_}
 use mathlib.Core.Bool.{Bool, true, cond, _&&_}
 use mathlib.Core.List.{List, [], _∷_, _++_}
 use lib.Dec.{leb, ltb, eqb}
-use Rattle.rows.specs.declared.fault.Fault.{Fault}
 use Rattle.rows.specs.declared.fault.Fault.the-variants as refusal
 use Rattle.rows.specs.declared.row.Row.{Row}
 use Rattle.rows.specs.Row.{pixelRow, triggerRow}
 use Rattle.words.specs.declared.picture.Picture.{Picture}
 use Rattle.words.specs.Fields.{field}
-use Rattle.words.specs.Machine.{Outcome, Given, gives, refuses, onto}
+use Rattle.words.specs.Machine.{Outcome, Given, gives, refuses, refusedIf, onto}
 use Rattle.words.specs.Picture.{inPicture}
 use Rattle.evt3.specs.declared.kind.Kind.{Kind}
 use Rattle.evt3.specs.declared.kind.Kind.the-variants.{AddrY, AddrX, VectBaseX, Vect12, Vect8, TimeLow, Continued4, TimeHigh, ExtTrigger, Others, Continued12, Reserved}
@@ -37,10 +36,6 @@ kindOf w = kindAt (field 12 4 w)
 -- the wrap count that a high part leads to: one below the previous adds 1
 unfoldable pub wrapsAt : State → ℕ → ℕ
 wrapsAt s high = cond (s .known .high && ltb high (s .high)) (s .wraps + 1) (s .wraps)
-
--- nothing, or a refusal where a test is true
-abbrev pub refusedIf : Bool → Fault → Given
-refusedIf test f = cond test (refuses f) (gives [])
 
 -- EVT_TIME_HIGH sets the high part, and not the time; count 1,024 is refused 5
 abbrev pub timeHigh : State → ℕ → Outcome State

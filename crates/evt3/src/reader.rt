@@ -2,8 +2,9 @@
 ghost use Rattle.rows.specs.Row.{roomOf};
 ghost use Rattle.rows.specs.Runs.{ReadAs};
 ghost use Rattle.words.specs.Machine.{readFrom};
+ghost use Rattle.words.specs.Picture.{pictureOf};
 ghost use Rattle.evt3.specs.State.{fresh};
-ghost use Rattle.evt3.specs.Reader.{machine, pictureOf, readingOf};
+ghost use Rattle.evt3.specs.Reader.{machine, readingOf};
 use crate::kind::Kind;
 use crate::state::State;
 use rows::Fault;
@@ -37,6 +38,13 @@ fn read_words(bytes: &[u8], picture: Picture, rows: &mut [u32]) -> Reading
                 let kind = Kind::of(w);
                 let gave = state.give(kind, picture, w, rows, n);
                 match gave {
+                    Gave::Full => {
+                        return Reading::Refused {
+                            fault: Fault::NoRoom,
+                            rows: n,
+                            place: at,
+                        };
+                    }
                     Gave::Refused(fault) => {
                         return Reading::Refused {
                             fault,

@@ -6,7 +6,8 @@ ghost use mathlib.Core.Path.{_≡_};
 ghost use Rattle.rows.specs.Event.{eventNumbers};
 ghost use Rattle.rows.specs.Row.{roomOf};
 ghost use Rattle.rows.specs.Runs.{ReadNumbers};
-ghost use Rattle.evt3.specs.Reader.{pictureOf, readingOf};
+ghost use Rattle.words.specs.Picture.{pictureOf};
+ghost use Rattle.evt3.specs.Reader.{readingOf};
 use rows::EventNumbers;
 use rows::ReadingNumbers;
 

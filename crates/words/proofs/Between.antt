@@ -1,8 +1,7 @@
 -- The invariant of a loop that reads the words of bytes, over any machine, and how each kind of word keeps or ends it.
 --     what the code found: found; the end: ends-whole, ends-pending; a part of a word: ends-part; a word: word-in; a refused word: ends-fault
---     a word with rows, all or none: goes-on, ends-full; a word whose rows a function has written: goes-on-gave, ends-gave
+--     a word with rows, all or none: goes-on, ends-full; a word whose rows a function has written: goes-on-gave, ends-gave-full, ends-gave
 use mathlib.Core.Path.{_≡_, refl, sym, _∙_, ap, subst}
-use mathlib.Core.Logic.{⊎-elim}
 use Prim.Native.Nat.{ℕ, _+_, _-_, _*_, _≤_, _<_}
 use native.Mathlib.Omega.{arith}
 use mathlib.Core.Bool.{true, false}
@@ -25,7 +24,7 @@ use Rattle.words.specs.declared.Gave.the-variants as gave
 use Rattle.words.specs.Machine.{next, fault, Given, gives, refuses, onto, Machine, run, closed, reading, readFrom}
 use Rattle.words.specs.Written.{GaveAs}
 use Rattle.words.proofs.Cut.{end-found, part-found, word-found, word-within, part-next}
-use Rattle.words.proofs.Wrote.{WroteAll, gave-all, WroteNone, gave-nothing}
+use Rattle.words.proofs.Wrote.{WroteAll, gave-all, gave-fault, WroteNone, gave-nothing}
 
 module _ {S : Type 0} (m : Machine S) (bytes : List ℕ) where
   -- the loop began at `from` in s₀ on the buffer `old`; it is at `at` in s, and n rows are in `buf`
@@ -88,27 +87,25 @@ module _ {S : Type 0} {m : Machine S} {bytes : List ℕ} {s₀ : S} {from : ℕ}
       pub ends-full : roomOf old < n + length new → ReadAs (readFrom m bytes s₀ from (roomOf old)) old buf (Refused NoRoom n (m .origin s at))
       ends-full f = did-reads (sofar-full (h .sofar) (readFrom m bytes s′ (at + m .size)) new (m .origin s at) (word-gives (roomOf old - n)) f) refl
 
-    -- rows that a function of the word's own wrote, all or none; a refusal of no room is given where the word begins
-    module _ {g : Given} (s′ : S) (o : m .step s at w ≡ onto g s′) {buf′ : List ℕ} where
-      pub goes-on-gave : {r : Gave} {k : ℕ} → GaveAs g n buf buf′ r → r ≡ gave.Rows k → Between m bytes s₀ from old s′ (at + m .size) k buf′
-      goes-on-gave {r} {k} did is =
+    -- rows that a function of the word's own wrote, all or none; no room for them is refused where the word or group begins
+    module _ {g : Given} (s′ : S) (o : m .step s at w ≡ onto g s′) where
+      given-step : {a : Given} → g ≡ a → m .step s at w ≡ onto a s′
+      given-step e = o ∙ ap (λ (b : Given). onto b s′) e
+
+      pub goes-on-gave : {buf′ : List ℕ} {r : Gave} {k : ℕ} → GaveAs g n buf buf′ r → r ≡ gave.Rows k → Between m bytes s₀ from old s′ (at + m .size) k buf′
+      goes-on-gave {buf′} {r} {k} did is =
           let all : WroteAll g n buf buf′ k = gave-all g (subst (GaveAs g n buf buf′) is did) in
-          let e : m .step s at w ≡ next s′ (all .new) = o ∙ ap (λ (a : Given). onto a s′) (all .given) in
           let f : n + length (all .new) ≤ roomOf old = omega (arith, all .fits, sofar-room (h .sofar)) in
-          subst (λ (j : ℕ). Between m bytes s₀ from old s′ (at + m .size) j buf′) (all .count) (goes-on e f (all .wrote))
+          subst (λ (j : ℕ). Between m bytes s₀ from old s′ (at + m .size) j buf′) (all .count) (goes-on (given-step (all .given)) f (all .wrote))
 
-      pub ends-gave : {r : Gave} {f : Fault} → m .origin s at ≡ at → GaveAs g n buf buf′ r → r ≡ gave.Refused f → ReadAs (readFrom m bytes s₀ from (roomOf old)) old buf′ (Refused f n at)
-      ends-gave {r} {f} place did is = subst (λ (b : List ℕ). ReadAs (readFrom m bytes s₀ from (roomOf old)) old b (Refused f n at)) (sym (none .wrote)) (⊎-elim own full (none .reason))
-        where
-          none : WroteNone g n buf buf′ f
-          none = gave-nothing g (subst (GaveAs g n buf buf′) is did)
+      pub ends-gave-full : {buf′ : List ℕ} {r : Gave} → GaveAs g n buf buf′ r → r ≡ gave.Full → ReadAs (readFrom m bytes s₀ from (roomOf old)) old buf′ (Refused NoRoom n (m .origin s at))
+      ends-gave-full {buf′} did is =
+          let none : WroteNone g n buf buf′ = gave-nothing g (subst (GaveAs g n buf buf′) is did) in
+          let k : roomOf old < n + length (none .new) = omega (arith, none .full, sofar-room (h .sofar)) in
+          subst (λ (b : List ℕ). ReadAs (readFrom m bytes s₀ from (roomOf old)) old b (Refused NoRoom n (m .origin s at))) (sym (none .wrote))
+          (ends-full (given-step (none .given)) k)
 
-          own : g ≡ refuses f → ReadAs (readFrom m bytes s₀ from (roomOf old)) old buf (Refused f n at)
-          own e = ends-fault (o ∙ ap (λ (a : Given). onto a s′) e)
-
-          full : (new : List Row) × (g ≡ gives new) × (roomOf buf < n + length new) × (f ≡ NoRoom) → ReadAs (readFrom m bytes s₀ from (roomOf old)) old buf (Refused f n at)
-          full t =
-              let e : m .step s at w ≡ next s′ (t .0) = o ∙ ap (λ (a : Given). onto a s′) (t .1) in
-              let k : roomOf old < n + length (t .0) = omega (arith, t .2, sofar-room (h .sofar)) in
-              subst (λ (p : ℕ). ReadAs (readFrom m bytes s₀ from (roomOf old)) old buf (Refused f n p)) place
-              (subst (λ (q : Fault). ReadAs (readFrom m bytes s₀ from (roomOf old)) old buf (Refused q n (m .origin s at))) (sym (t .3)) (ends-full e k))
+      pub ends-gave : {buf′ : List ℕ} {r : Gave} {f : Fault} → GaveAs g n buf buf′ r → r ≡ gave.Refused f → ReadAs (readFrom m bytes s₀ from (roomOf old)) old buf′ (Refused f n at)
+      ends-gave {buf′} {r} {f} did is =
+          let own : (g ≡ refuses f) × (buf′ ≡ buf) = gave-fault g (subst (GaveAs g n buf buf′) is did) in
+          subst (λ (b : List ℕ). ReadAs (readFrom m bytes s₀ from (roomOf old)) old b (Refused f n at)) (sym (own .1)) (ends-fault (given-step (own .0)))

@@ -2,7 +2,7 @@
 use mathlib.Core.Path.{_≡_}
 use Prim.Native.Nat.{ℕ, _+_}
 use mathlib.Core.Bool.{Bool, cond}
-use mathlib.Core.List.{List}
+use mathlib.Core.List.{List, []}
 use lib.ListN.{drop}
 use Rattle.rows.specs.declared.fault.Fault.{Fault}
 use Rattle.rows.specs.declared.fault.Fault.the-variants.{Cut}
@@ -20,6 +20,10 @@ pub data Outcome (S : Type 0) : Type 0 where
 pub data Given : Type 0 where
   gives : List Row → Given
   refuses : Fault → Given
+
+-- no rows, or a refusal where a test is true
+abbrev pub refusedIf : Bool → Fault → Given
+refusedIf test f = cond test (refuses f) (gives [])
 
 -- what it gives, and the next state
 abbrev pub onto : {S : Type 0} → Given → S → Outcome S

@@ -8,6 +8,10 @@ use Rattle.words.specs.declared.picture.Picture.{Picture}
 use Rattle.words.specs.declared.picture.Admission.{Admission}
 use Rattle.words.specs.declared.picture.Admission.the-variants.{Admitted, Refused}
 
+-- the picture asked for
+abbrev pub pictureOf : ℕ → ℕ → Picture
+pictureOf width height = record { width = width; height = height }
+
 -- width and height from 1 to 2,048
 abbrev pub goodPicture : Picture → Bool
 goodPicture p = leb 1 (p .width) && leb (p .width) 2048 && leb 1 (p .height) && leb (p .height) 2048

@@ -1,4 +1,4 @@
--- What a function that writes a word's rows answers, and what it leaves in the buffer. No public contract cites it.
+-- What a function that writes a word's rows answers, and what it leaves in the buffer.
 use mathlib.Core.Path.{_≡_}
 use Prim.Native.Nat.{ℕ, _+_, _*_}
 use mathlib.Core.Bool.{cond}
@@ -6,10 +6,9 @@ use mathlib.Core.List.{List}
 use lib.ListN.{length}
 use lib.Seq.{sets}
 use lib.Dec.{leb}
-use Rattle.rows.specs.declared.fault.Fault.the-variants.{NoRoom}
 use Rattle.rows.specs.Row.{flat, roomOf}
 use Rattle.words.specs.declared.Gave.{Gave}
-use Rattle.words.specs.declared.Gave.the-variants.{Rows, Refused}
+use Rattle.words.specs.declared.Gave.the-variants.{Rows, Full, Refused}
 use Rattle.words.specs.Machine.{Outcome, next, fault, Given, gives, refuses}
 
 -- what an outcome gives
@@ -19,7 +18,7 @@ givenOf (fault f) = refuses f
 
 -- n rows are in a buffer that has room for `room`; a word's rows are added, all or none
 abbrev pub gaveOf : Given → ℕ → ℕ → Gave
-gaveOf (gives new) n room = cond (leb (n + length new) room) (Rows (n + length new)) (Refused NoRoom)
+gaveOf (gives new) n room = cond (leb (n + length new) room) (Rows (n + length new)) Full
 gaveOf (refuses f) n room = Refused f
 
 -- what the buffer then holds

@@ -7,6 +7,7 @@
 //     first16(bytes), first32, first64     the word at the front of a slice, a part of one, or the end
 //     at16(bytes, at), at32, at64          the same at a place; past the end is the end
 //     put(out, at, word, size)             a word's bytes into a lent slice; where they do not fit nothing is touched
+//     give(rows, n, row)                   a word's row into a lent slice, after the n that are there
 //     admit(bytes, picture)                refusals 1 and 14, which come before the first word
 //     Picture, Gave                        the picture that pixels lie in; what a word did to the lent rows
 //
@@ -16,8 +17,11 @@ ghost use mathlib.Core.List.{[], _∷_};
 ghost use Prim.Native.Nat.{_+_, _≤_};
 ghost use lib.ListN.{length};
 ghost use lib.Seq.{sets};
+ghost use Rattle.words.specs.Machine.{gives};
 ghost use Rattle.words.specs.Words.{value, firstOf, wordsOf, nextAt, bytesOf, PutWord};
+ghost use Rattle.words.specs.Written.{GaveAs};
 use rows::Fault;
+use rows::Row;
 
 mod picture;
 
@@ -32,10 +36,22 @@ pub enum Next {
     End,
 }
 
-// What a word did to the lent rows: so many are finished now, or it is refused and none of its own are written.
+// What a word did to the lent rows: so many are finished now, or there is no room for its own, or it is refused. None of its
+// own are written but in the first case.
 pub enum Gave {
     Rows(usize),
+    Full,
     Refused(Fault),
+}
+
+// One row after the n that are in the slice, if there is room for it.
+pub fn give(rows: &mut [u32], n: usize, row: Row) -> Gave
+    ensures { λ r. ⌜ GaveAs (gives (row ∷ [])) n (now (rows .entry)) (now (rows .exit)) r ⌝ }
+{
+    if rows::put(rows, n, row) {
+        return Gave::Rows(n + 1);
+    }
+    Gave::Full
 }
 
 fn word16(a: u8, b: u8) -> u64

@@ -10,7 +10,7 @@ use Rattle.words.specs.declared.Gave.the-variants.{Rows}
 use Rattle.words.specs.declared.Next.the-variants.{Word}
 use Rattle.words.specs.declared.picture.Picture.{Picture}
 use Rattle.words.specs.Words.{nextAt}
-use Rattle.words.proofs.Between.{Between, between-start, between-length, between-room, found, ends-whole, ends-part, word-in, goes-on-gave, ends-gave}
+use Rattle.words.proofs.Between.{Between, between-start, between-length, between-room, found, ends-whole, ends-part, word-in, goes-on-gave, ends-gave-full, ends-gave}
 use Rattle.words.proofs.Wrote.{gave-length}
 use Rattle.evt3.specs.declared.state.State.{State}
 use Rattle.evt3.specs.State.{fresh}
@@ -104,18 +104,31 @@ of-requires c κs = search needs
 give-requires : tie.Need-give-requires Inv-loop μ-loop
 give-requires c κs = between-room (c .before .before .before .before .before .before .before .loop .inv)
 
-enum-known-gave : tie.Need-enum-known-gave Inv-loop μ-loop
-enum-known-gave c = search needs
+enum-told-3 : tie.Need-enum-told-3 Inv-loop μ-loop
+enum-told-3 c = search needs
 
 same-length-3 : tie.Need-same-length-3 Inv-loop μ-loop
 same-length-3 c =
-    let d = c .before .before .before .before .before in
+    let d = c .before .before .before .before in
     gave-length _ (d .give .ensures) ∙ between-length (d .before .before .before .before .before .before .before .before .loop .inv)
 
 returns-3 : tie.Need-returns-3 Inv-loop μ-loop
 returns-3 c =
+    let d = c .before .before .before .before in
+    ends-gave-full (d .before .before .before .before .before .before .before .before .loop .inv) (lit< tt) (word d) _ (any-parts _ _ _ (d .before .before .of .ensures)) (d .give .ensures) (c .enum-told3 .given .1)
+
+enum-known-gave : tie.Need-enum-known-gave Inv-loop μ-loop
+enum-known-gave c = search needs
+
+same-length-4 : tie.Need-same-length-4 Inv-loop μ-loop
+same-length-4 c =
     let d = c .before .before .before .before .before in
-    ends-gave (d .before .before .before .before .before .before .before .before .loop .inv) (lit< tt) (word d) _ (any-parts _ _ _ (d .before .before .of .ensures)) refl (d .give .ensures) (c .before .gave .given .1)
+    gave-length _ (d .give .ensures) ∙ between-length (d .before .before .before .before .before .before .before .before .loop .inv)
+
+returns-4 : tie.Need-returns-4 Inv-loop μ-loop
+returns-4 c =
+    let d = c .before .before .before .before .before in
+    ends-gave (d .before .before .before .before .before .before .before .before .loop .inv) (lit< tt) (word d) _ (any-parts _ _ _ (d .before .before .of .ensures)) (d .give .ensures) (c .before .gave .given .1)
 
 enum-known-gave-2 : tie.Need-enum-known-gave-2 Inv-loop μ-loop
 enum-known-gave-2 c = search needs
@@ -123,8 +136,8 @@ enum-known-gave-2 c = search needs
 add-at : tie.Need-add-at Inv-loop μ-loop
 add-at c = omega (arith, word-fits (c .before .before .before .before .before), c .before .before .before .before .before .before .before .before .before .before .before .before .before .before .before .before .before .good)
 
-enum-told-3 : tie.Need-enum-told-3 Inv-loop μ-loop
-enum-told-3 c = search needs
+enum-told-4 : tie.Need-enum-told-4 Inv-loop μ-loop
+enum-told-4 c = search needs
 
 addr-y-requires : tie.Need-addr-y-requires Inv-loop μ-loop
 addr-y-requires c κs = search needs
@@ -135,10 +148,10 @@ loop-less c = omega (arith, word-fits (c .before .before .before .before .before
 loop-again : tie.Need-loop-again Inv-loop μ-loop
 loop-again c =
     let d = c .before .before .before .before .before .before .before .before in
-    after-word d (addr-y-sets _ _ _ (d .before .before .of .ensures) (c .before .enum-told3 .given .1) (c .addr-y .ensures)) (c .before .before .before .before .gave2 .given .1)
+    after-word d (addr-y-sets _ _ _ (d .before .before .of .ensures) (c .before .enum-told4 .given .1) (c .addr-y .ensures)) (c .before .before .before .before .gave2 .given .1)
 
-enum-told-4 : tie.Need-enum-told-4 Inv-loop μ-loop
-enum-told-4 c = search needs
+enum-told-5 : tie.Need-enum-told-5 Inv-loop μ-loop
+enum-told-5 c = search needs
 
 vect-base-x-requires : tie.Need-vect-base-x-requires Inv-loop μ-loop
 vect-base-x-requires c κs = search needs
@@ -149,10 +162,10 @@ loop-less-2 c = omega (arith, word-fits (c .before .before .before .before .befo
 loop-again-2 : tie.Need-loop-again-2 Inv-loop μ-loop
 loop-again-2 c =
     let d = c .before .before .before .before .before .before .before .before in
-    after-word d (vect-base-x-sets _ _ _ (d .before .before .of .ensures) (c .before .enum-told4 .given .1) (c .vect-base-x .ensures)) (c .before .before .before .before .gave2 .given .1)
+    after-word d (vect-base-x-sets _ _ _ (d .before .before .of .ensures) (c .before .enum-told5 .given .1) (c .vect-base-x .ensures)) (c .before .before .before .before .gave2 .given .1)
 
-enum-told-5 : tie.Need-enum-told-5 Inv-loop μ-loop
-enum-told-5 c = search needs
+enum-told-6 : tie.Need-enum-told-6 Inv-loop μ-loop
+enum-told-6 c = search needs
 
 vect-12-requires : tie.Need-vect-12-requires Inv-loop μ-loop
 vect-12-requires c κs = search needs
@@ -163,10 +176,10 @@ loop-less-3 c = omega (arith, word-fits (c .before .before .before .before .befo
 loop-again-3 : tie.Need-loop-again-3 Inv-loop μ-loop
 loop-again-3 c =
     let d = c .before .before .before .before .before .before .before .before in
-    after-word d (vect-12-moves _ _ _ (d .before .before .of .ensures) (c .before .enum-told5 .given .1) (c .vect-12 .ensures)) (c .before .before .before .before .gave2 .given .1)
+    after-word d (vect-12-moves _ _ _ (d .before .before .of .ensures) (c .before .enum-told6 .given .1) (c .vect-12 .ensures)) (c .before .before .before .before .gave2 .given .1)
 
-enum-told-6 : tie.Need-enum-told-6 Inv-loop μ-loop
-enum-told-6 c = search needs
+enum-told-7 : tie.Need-enum-told-7 Inv-loop μ-loop
+enum-told-7 c = search needs
 
 vect-8-requires : tie.Need-vect-8-requires Inv-loop μ-loop
 vect-8-requires c κs = search needs
@@ -177,10 +190,10 @@ loop-less-4 c = omega (arith, word-fits (c .before .before .before .before .befo
 loop-again-4 : tie.Need-loop-again-4 Inv-loop μ-loop
 loop-again-4 c =
     let d = c .before .before .before .before .before .before .before .before in
-    after-word d (vect-8-moves _ _ _ (d .before .before .of .ensures) (c .before .enum-told6 .given .1) (c .vect-8 .ensures)) (c .before .before .before .before .gave2 .given .1)
+    after-word d (vect-8-moves _ _ _ (d .before .before .of .ensures) (c .before .enum-told7 .given .1) (c .vect-8 .ensures)) (c .before .before .before .before .gave2 .given .1)
 
-enum-told-7 : tie.Need-enum-told-7 Inv-loop μ-loop
-enum-told-7 c = search needs
+enum-told-8 : tie.Need-enum-told-8 Inv-loop μ-loop
+enum-told-8 c = search needs
 
 time-low-requires : tie.Need-time-low-requires Inv-loop μ-loop
 time-low-requires c κs = search needs
@@ -191,13 +204,13 @@ loop-less-5 c = omega (arith, word-fits (c .before .before .before .before .befo
 loop-again-5 : tie.Need-loop-again-5 Inv-loop μ-loop
 loop-again-5 c =
     let d = c .before .before .before .before .before .before .before .before in
-    after-word d (time-low-sets _ _ _ (d .before .before .of .ensures) (c .before .enum-told7 .given .1) (c .time-low .ensures)) (c .before .before .before .before .gave2 .given .1)
+    after-word d (time-low-sets _ _ _ (d .before .before .of .ensures) (c .before .enum-told8 .given .1) (c .time-low .ensures)) (c .before .before .before .before .gave2 .given .1)
 
-enum-told-8 : tie.Need-enum-told-8 Inv-loop μ-loop
-enum-told-8 c = search needs
+enum-told-9 : tie.Need-enum-told-9 Inv-loop μ-loop
+enum-told-9 c = search needs
 
 time-high-requires : tie.Need-time-high-requires Inv-loop μ-loop
-time-high-requires c κs = wraps-fit _ _ _ (c .enum-told8 .given .1) (c .before .before .before .before .before .before .before .give .ensures) (c .before .before .before .gave2 .given .1)
+time-high-requires c κs = wraps-fit _ _ _ (c .enum-told9 .given .1) (c .before .before .before .before .before .before .before .give .ensures) (c .before .before .before .gave2 .given .1)
 
 loop-less-6 : tie.Need-loop-less-6 Inv-loop μ-loop
 loop-less-6 c = omega (arith, word-fits (c .before .before .before .before .before .before .before .before))
@@ -205,7 +218,7 @@ loop-less-6 c = omega (arith, word-fits (c .before .before .before .before .befo
 loop-again-6 : tie.Need-loop-again-6 Inv-loop μ-loop
 loop-again-6 c =
     let d = c .before .before .before .before .before .before .before .before in
-    after-word d (time-high-sets _ _ _ (d .before .before .of .ensures) (c .before .enum-told8 .given .1) (c .time-high .ensures)) (c .before .before .before .before .gave2 .given .1)
+    after-word d (time-high-sets _ _ _ (d .before .before .of .ensures) (c .before .enum-told9 .given .1) (c .time-high .ensures)) (c .before .before .before .before .gave2 .given .1)
 
 loop-less-7 : tie.Need-loop-less-7 Inv-loop μ-loop
 loop-less-7 c = omega (arith, word-fits (c .before .before .before .before .before .before))
@@ -236,32 +249,35 @@ read-words-spec =
     enum-known-next
     of-requires
     give-requires
-    enum-known-gave
+    enum-told-3
     same-length-3
     returns-3
+    enum-known-gave
+    same-length-4
+    returns-4
     enum-known-gave-2
     add-at
-    enum-told-3
+    enum-told-4
     addr-y-requires
     loop-less
     loop-again
-    enum-told-4
+    enum-told-5
     vect-base-x-requires
     loop-less-2
     loop-again-2
-    enum-told-5
+    enum-told-6
     vect-12-requires
     loop-less-3
     loop-again-3
-    enum-told-6
+    enum-told-7
     vect-8-requires
     loop-less-4
     loop-again-4
-    enum-told-7
+    enum-told-8
     time-low-requires
     loop-less-5
     loop-again-5
-    enum-told-8
+    enum-told-9
     time-high-requires
     loop-less-6
     loop-again-6

@@ -1,0 +1,2 @@
+-- Lemmas, and the laws proved (Kept).
+pub mod Steps

@@ -1,0 +1,38 @@
+-- `evt2::reader::read` meets its contract.
+use Rattle.words.proofs.Admitted.{reads-none, reads-on}
+use borrow.Author.Needs.{needs}
+use Rattle.evt2.proofs.reader.read.Statement.{statement}
+use Rattle.evt2.proofs.reader.read.Tie as tie
+
+admit-requires : tie.Need-admit-requires
+admit-requires c κs = search needs
+
+enum-known-admission : tie.Need-enum-known-admission
+enum-known-admission c = search needs
+
+enum-told : tie.Need-enum-told
+enum-told c = search needs
+
+read-words-requires : tie.Need-read-words-requires
+read-words-requires c κs = search needs
+
+returns : tie.Need-returns
+returns c = reads-none _ (c .before .before .before .admit .ensures) (c .before .admission .given .1)
+
+same-length : tie.Need-same-length
+same-length c = search needs
+
+returns-2 : tie.Need-returns-2
+returns-2 c = reads-on _ (c .before .before .before .before .before .before .admit .ensures) (c .before .before .before .before .enum-told .given .1) (c .before .before .read-words .ensures)
+
+pub read-spec : {M : Type 1} → statement M
+read-spec =
+    tie.close
+    (tie.spec
+    admit-requires
+    enum-known-admission
+    enum-told
+    read-words-requires
+    returns
+    same-length
+    returns-2)

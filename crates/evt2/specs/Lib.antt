@@ -1,0 +1,4 @@
+-- Definitions that the contracts cite, and the laws.
+pub mod Reader
+pub mod State
+pub mod Words

@@ -8,7 +8,7 @@ use types.Run.{OneOf, miss}
 use Rattle.words.specs.declared.picture.Picture.{Picture}
 use Rattle.words.specs.Machine.{onto}
 use Rattle.evt2.specs.declared.kind.Kind.{Kind}
-use Rattle.evt2.specs.declared.kind.Kind.the-variants.{Off, On, TimeHigh, ExtTrigger, Imu, Others, Continued, Reserved, Inside}
+use Rattle.evt2.specs.declared.kind.Kind.the-variants.{Cd, TimeHigh, ExtTrigger, Imu, Others, Continued, Reserved, Inside}
 use Rattle.evt2.specs.declared.state.State.{State}
 use Rattle.evt2.specs.State.{pending, origin}
 use Rattle.evt2.specs.Words.{kindIn, givenAs, nextAs, step}
@@ -16,7 +16,7 @@ use Rattle.evt2.proofs.kind.Kind.{the-type}
 
 -- the kinds that set nothing, by their places in the enum
 abbrev others : List ℕ
-others = 0 ∷ 1 ∷ 3 ∷ 6 ∷ 7 ∷ []
+others = 0 ∷ 2 ∷ 5 ∷ 6 ∷ []
 
 -- a word of kind k; s′ is the state that the code handed back
 module _ (p : Picture) (s : State) (place w : ℕ) {k : Kind} (is : k ≡ kindIn s w) where
@@ -28,15 +28,14 @@ pub leads : (s : State) (place w : ℕ) {k : Kind} (j : Kind) {s′ : State} →
 leads s place w j e r = r ∙ ap (λ (i : Kind). nextAs i s place w) (sym e)
 
 pub stays : (s : State) (place w : ℕ) (k : Kind) → OneOf others (tagOf the-type k) → s ≡ nextAs k s place w
-stays s place w Off h = refl
-stays s place w On h = refl
-stays s place w TimeHigh h = absurd (miss others 2 tt h)
+stays s place w Cd h = refl
+stays s place w TimeHigh h = absurd (miss others 1 tt h)
 stays s place w ExtTrigger h = refl
-stays s place w Imu h = absurd (miss others 4 tt h)
-stays s place w Others h = absurd (miss others 5 tt h)
+stays s place w Imu h = absurd (miss others 3 tt h)
+stays s place w Others h = absurd (miss others 4 tt h)
 stays s place w Continued h = refl
 stays s place w Reserved h = refl
-stays s place w Inside h = absurd (miss others 8 tt h)
+stays s place w Inside h = absurd (miss others 7 tt h)
 
 -- where a group in hand begins
 pub pends-there : (s : State) (at : ℕ) → pending s ≡ true → s .place ≡ origin s at

@@ -11,15 +11,15 @@ use Rattle.words.specs.Fields.{field}
 use Rattle.words.specs.Machine.{Outcome, Given, gives, refuses, refusedIf, onto}
 use Rattle.words.specs.Picture.{inPicture}
 use Rattle.evt2.specs.declared.kind.Kind.{Kind}
-use Rattle.evt2.specs.declared.kind.Kind.the-variants.{Off, On, TimeHigh, ExtTrigger, Imu, Others, Continued, Reserved, Inside}
+use Rattle.evt2.specs.declared.kind.Kind.the-variants.{Cd, TimeHigh, ExtTrigger, Imu, Others, Continued, Reserved, Inside}
 use Rattle.evt2.specs.declared.state.State.{State}
 use Rattle.evt2.specs.State.{pending, withHigh, begun, further}
 
 -- the kind of a word, by its bits 31..28; the types not named are reserved
 abbrev pub kindAt : ℕ → Kind
 kindAt top =
-    cond (eqb top 0) Off
-    (cond (eqb top 1) On
+    cond (eqb top 0) Cd
+    (cond (eqb top 1) Cd
     (cond (eqb top 8) TimeHigh
     (cond (eqb top 10) ExtTrigger
     (cond (eqb top 13) Imu
@@ -37,12 +37,12 @@ kindIn s w = cond (pending s) Inside (kindOf w)
 unfoldable pub timeAt : State → ℕ → ℕ
 timeAt s w = s .high * 64 + field 22 6 w
 
--- CD_OFF, CD_ON: 21..11 x, 10..0 y; passed over before the first TIME_HIGH, refused 6 outside the picture
-unfoldable pub pixelOf : Picture → State → ℕ → ℕ → Given
-pixelOf p s polarity w =
+-- CD_OFF, CD_ON: 28 polarity, 21..11 x, 10..0 y; passed over before the first TIME_HIGH, refused 6 outside the picture
+unfoldable pub pixelOf : Picture → State → ℕ → Given
+pixelOf p s w =
     cond (s .known)
     (cond (inPicture p (field 11 11 w) (field 0 11 w))
-    (gives (pixelRow (timeAt s w) (field 11 11 w) (field 0 11 w) polarity ∷ []))
+    (gives (pixelRow (timeAt s w) (field 11 11 w) (field 0 11 w) (field 28 1 w) ∷ []))
     (refuses refusal.Outside))
     (gives [])
 
@@ -91,8 +91,7 @@ insideOf s w =
 
 -- what a word of each kind gives
 abbrev pub givenAs : Kind → Picture → State → ℕ → Given
-givenAs Off p s w = pixelOf p s 0 w
-givenAs On p s w = pixelOf p s 1 w
+givenAs Cd p s w = pixelOf p s w
 givenAs TimeHigh p s w = refusedIf (goesBack s w) refusal.BadTime
 givenAs ExtTrigger p s w = triggerOf s w
 givenAs Imu p s w = gives []
@@ -108,8 +107,7 @@ nextAs TimeHigh s place w = withHigh s (field 0 28 w)
 nextAs Imu s place w = imuBegun s place w
 nextAs Others s place w = packetBegun s place w
 nextAs Inside s place w = further s w
-nextAs Off s place w = s
-nextAs On s place w = s
+nextAs Cd s place w = s
 nextAs ExtTrigger s place w = s
 nextAs Continued s place w = s
 nextAs Reserved s place w = s

@@ -34,14 +34,15 @@ fn count_of(w: u64) -> u32
 
 impl State {
     // CD_OFF, CD_ON: one pixel, if the high part is known.
-    fn pixel(self, picture: Picture, polarity: u32, w: u64, rows: &mut [u32], n: usize) -> Gave
+    fn cd(self, picture: Picture, w: u64, rows: &mut [u32], n: usize) -> Gave
         requires { ⌜ n ≤ roomOf (now rows) ⌝ }
-        ensures { λ r. ⌜ GaveAs (pixelOf picture self polarity w) n (now (rows .entry)) (now (rows .exit)) r ⌝ }
+        ensures { λ r. ⌜ GaveAs (pixelOf picture self w) n (now (rows .entry)) (now (rows .exit)) r ⌝ }
     {
         if self.known {
             let x = (w / 2048 % 2048) as u32;
             let y = (w % 2048) as u32;
             if picture.holds(x, y) {
+                let polarity = (w / 268435456 % 2) as u32;
                 return words::give(rows, n, Row::pixel(self.time_at(w), x, y, polarity));
             }
             return Gave::Refused(Fault::Outside);
@@ -113,8 +114,7 @@ impl State {
         ensures { λ r. ⌜ GaveAs (givenAs kind picture self w) n (now (rows .entry)) (now (rows .exit)) r ⌝ }
     {
         match kind {
-            Kind::Off => self.pixel(picture, 0, w, rows, n),
-            Kind::On => self.pixel(picture, 1, w, rows, n),
+            Kind::Cd => self.cd(picture, w, rows, n),
             Kind::TimeHigh => {
                 if self.goes_back(w) {
                     return Gave::Refused(Fault::BadTime);

@@ -2,10 +2,9 @@
 ghost use mathlib.Core.Path.{_≡_};
 ghost use Rattle.evt2.specs.Words.{kindOf};
 
-// The word types of the documents, every other, and a word inside a group, whatever its type.
+// The word types of the documents, CD_OFF and CD_ON as one, every other, and a word inside a group, whatever its type.
 pub(crate) enum Kind {
-    Off,
-    On,
+    Cd,
     TimeHigh,
     ExtTrigger,
     Imu,
@@ -21,8 +20,8 @@ impl Kind {
         ensures { λ r. ⌜ r ≡ kindOf w ⌝ }
     {
         match w / 268435456 % 16 {
-            0 => Kind::Off,
-            1 => Kind::On,
+            0 => Kind::Cd,
+            1 => Kind::Cd,
             8 => Kind::TimeHigh,
             10 => Kind::ExtTrigger,
             13 => Kind::Imu,

@@ -7,7 +7,8 @@ ghost use Rattle.rows.specs.Event.{eventNumbers};
 ghost use Rattle.rows.specs.Row.{roomOf};
 ghost use Rattle.rows.specs.Runs.{ReadNumbers};
 ghost use Rattle.words.specs.Picture.{pictureOf};
-ghost use Rattle.evt3.specs.Reader.{readingOf};
+ghost use Rattle.evt2.specs.Reader as evt2;
+ghost use Rattle.evt3.specs.Reader as evt3;
 use rows::EventNumbers;
 use rows::ReadingNumbers;
 
@@ -19,6 +20,19 @@ pub extern "C" fn fry_event_of(row: &[u32]) -> EventNumbers
     rows::event_numbers(row)
 }
 
+// The rows of EVT2 words.
+#[no_mangle]
+pub extern "C" fn fry_read_evt2(
+    bytes: &[u8],
+    width: u32,
+    height: u32,
+    rows: &mut [u32],
+) -> ReadingNumbers
+    ensures { λ r. ⌜ ReadNumbers (evt2.readingOf (pictureOf width height) (now (bytes .entry)) (roomOf (now (rows .entry)))) (now (rows .entry)) (now (rows .exit)) r ⌝ }
+{
+    evt2::read(bytes, width, height, rows).numbers()
+}
+
 // The rows of EVT3 words.
 #[no_mangle]
 pub extern "C" fn fry_read_evt3(
@@ -27,7 +41,7 @@ pub extern "C" fn fry_read_evt3(
     height: u32,
     rows: &mut [u32],
 ) -> ReadingNumbers
-    ensures { λ r. ⌜ ReadNumbers (readingOf (pictureOf width height) (now (bytes .entry)) (roomOf (now (rows .entry)))) (now (rows .entry)) (now (rows .exit)) r ⌝ }
+    ensures { λ r. ⌜ ReadNumbers (evt3.readingOf (pictureOf width height) (now (bytes .entry)) (roomOf (now (rows .entry)))) (now (rows .entry)) (now (rows .exit)) r ⌝ }
 {
     evt3::read(bytes, width, height, rows).numbers()
 }

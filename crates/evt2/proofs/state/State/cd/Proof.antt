@@ -1,10 +1,10 @@
--- `evt2::state::State::pixel` meets its contract.
+-- `evt2::state::State::cd` meets its contract.
 use Rattle.words.proofs.Wrote.{gave-refused, gave-none, gave-row}
 use Rattle.evt2.specs.Words.{pixelOf}
 use mathlib.Core.Path.{sym, _∙_}
 use borrow.Author.Needs.{needs}
-use Rattle.evt2.proofs.state.State.pixel.Statement.{statement}
-use Rattle.evt2.proofs.state.State.pixel.Tie as tie
+use Rattle.evt2.proofs.state.State.cd.Statement.{statement}
+use Rattle.evt2.proofs.state.State.cd.Tie as tie
 
 cast-x : tie.Need-cast-x
 cast-x c = search needs
@@ -14,6 +14,9 @@ cast-y c = search needs
 
 holds-requires : tie.Need-holds-requires
 holds-requires c κs = search needs
+
+cast-polarity : tie.Need-cast-polarity
+cast-polarity c = search needs
 
 time-at-requires : tie.Need-time-at-requires
 time-at-requires c κs = search needs
@@ -39,13 +42,14 @@ returns-3 : tie.Need-returns-3
 unfolding pixelOf
 returns-3 c = simp (c .if1 .left) (gave-none _ _ (c .before .before .pre))
 
-pub pixel-spec : {M : Type 1} → statement M
-pixel-spec =
+pub cd-spec : {M : Type 1} → statement M
+cd-spec =
     tie.close
     (tie.spec
     cast-x
     cast-y
     holds-requires
+    cast-polarity
     time-at-requires
     pixel-requires
     give-requires

@@ -34,11 +34,22 @@ typedef struct {
 /* The event of a row of ten numbers; a length other than 10 is refused 13, a row that is not good 12. */
 fry_event fry_event_of(const uint32_t *row, size_t len);
 
-/* Reads the EVT3 words of a recording, for a picture of width by height pixels, each 1 to 2,048. Rows take ten numbers each
- * and stand from rows[0] on; rows_len counts numbers, so that there is room for rows_len / 10 rows, rounded down. A word's
- * rows are written all or none. What lies past the finished rows is not touched, refused or not.
- * Refused before any word, with no rows and place 0: 1, then 14. Refused at a word, in this order: 4, 3, 7, 5, 6, 2. */
+/* Readers of words, for a picture of width by height pixels, each 1 to 2,048. Rows take ten numbers each and stand from rows[0]
+ * on; rows_len counts numbers, so that there is room for rows_len / 10 rows, rounded down. A word's rows are written all or
+ * none. What lies past the finished rows is not touched, refused or not.
+ * Refused before any word, with no rows and place 0: 1, then 14. */
+
+/* Reads the EVT2 words of a recording. Refused at a word, in this order: 4, 3, 5, 8, 6, 2. Inside an IMU or USB group only 4
+ * and 8 are met; the place of 4 and 2 is then the group's, and that of 8 the stray word's. */
+fry_reading fry_read_evt2(const uint8_t *bytes, size_t bytes_len, uint32_t width, uint32_t height, uint32_t *rows, size_t rows_len);
+
+/* Reads the EVT3 words of a recording. Refused at a word, in this order: 4, 3, 7, 5, 6, 2. */
 fry_reading fry_read_evt3(const uint8_t *bytes, size_t bytes_len, uint32_t width, uint32_t height, uint32_t *rows, size_t rows_len);
+
+/* Writes the EVT2 words of rows, four bytes each, from out[0] on, and answers how many they are. What follows them is not
+ * touched. rows_len counts numbers, ten a row; kinds 1, 2 and 3 are written.
+ * Refused, in this order, and then nothing is touched: 13, row by row 12 and then 5, and 2 where out is too short. */
+fry_writing fry_write_evt2(const uint32_t *rows, size_t rows_len, uint8_t *out, size_t out_len);
 
 #ifdef __cplusplus
 }

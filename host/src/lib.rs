@@ -8,7 +8,7 @@ use std::fmt;
 
 mod sys;
 
-/// A reader written by hand for speed, which the benchmark times the library against. No part of the library uses it.
+/// Readers and a writer made by hand for speed, which the benchmark times the library against. No part of the library uses them.
 #[doc(hidden)]
 pub mod fast;
 
@@ -35,6 +35,15 @@ pub struct Fault {
     pub place: usize,
 }
 
+/// Why and at which row a writer refused its list. The lent buffer is as it was.
+#[derive(Clone, Copy, Debug, PartialEq, Eq)]
+pub struct RowFault {
+    /// The rule that was broken.
+    pub refusal: Refusal,
+    /// The index of the first row at fault; 0 where the buffer is too short (2) or the list has a wrong length (13).
+    pub row: usize,
+}
+
 impl fmt::Display for Refusal {
     fn fmt(&self, f: &mut fmt::Formatter<'_>) -> fmt::Result {
         write!(f, "refusal {}", self.0)
@@ -47,9 +56,21 @@ impl fmt::Display for Fault {
     }
 }
 
+impl fmt::Display for RowFault {
+    fn fmt(&self, f: &mut fmt::Formatter<'_>) -> fmt::Result {
+        match self.refusal {
+            // no row is at fault
+            Refusal(2 | 13) => self.refusal.fmt(f),
+            _ => write!(f, "{} at row {}", self.refusal, self.row),
+        }
+    }
+}
+
 impl Error for Refusal {}
 
 impl Error for Fault {}
+
+impl Error for RowFault {}
 
 /// The event of a row.
 #[derive(Clone, Copy, Debug)]
@@ -79,10 +100,21 @@ pub fn event_of(row: &[u32]) -> Result<Event, Refusal> {
     })
 }
 
-/// Reads EVT3 words into rows of ten numbers, for a picture of `width` by `height` pixels, and answers how many rows there are.
+/// Reads EVT2 words into rows of ten numbers, for a picture of `width` by `height` pixels, and answers how many rows there are.
 /// The buffer has room for a tenth of its length, rounded down; what follows the finished rows is left as it was.
+pub fn read_evt2(bytes: &[u8], width: u32, height: u32, rows: &mut [u32]) -> Result<usize, Fault> {
+    reading(evt2_numbers(bytes, width, height, rows))
+}
+
+/// Reads EVT3 words; all else is as in [`read_evt2`].
 pub fn read_evt3(bytes: &[u8], width: u32, height: u32, rows: &mut [u32]) -> Result<usize, Fault> {
     reading(evt3_numbers(bytes, width, height, rows))
+}
+
+/// Writes a list of rows, ten numbers each, as EVT2 words of four bytes from the buffer's first byte on, and answers how many words
+/// there are: at most seven for a row. What follows them is left as it was, and all of the buffer where the list is refused.
+pub fn write_evt2(rows: &[u32], out: &mut [u8]) -> Result<usize, RowFault> {
+    writing(evt2_written(rows, out))
 }
 
 /// A reader's three numbers, given a Rust type.
@@ -94,12 +126,38 @@ fn reading((refusal, rows, place): (u64, u64, u64)) -> Result<usize, Fault> {
     }
 }
 
-/// All that `fry_read_evt3` answers, refused or not: the refusal, the finished rows and the place.
+/// A writer's two numbers, given a Rust type.
+fn writing((refusal, count): (u64, u64)) -> Result<usize, RowFault> {
+    match refusal {
+        0 => Ok(count as usize),
+        _ => Err(RowFault { refusal: Refusal(refusal), row: count as usize }),
+    }
+}
+
+/// All that `fry_read_evt2` answers, refused or not: the refusal, the finished rows and the place.
+#[doc(hidden)]
+pub fn evt2_numbers(bytes: &[u8], width: u32, height: u32, rows: &mut [u32]) -> (u64, u64, u64) {
+    reading_numbers(sys::fry_read_evt2, bytes, width, height, rows)
+}
+
+/// All that `fry_read_evt3` answers, as `evt2_numbers` has it.
 #[doc(hidden)]
 pub fn evt3_numbers(bytes: &[u8], width: u32, height: u32, rows: &mut [u32]) -> (u64, u64, u64) {
+    reading_numbers(sys::fry_read_evt3, bytes, width, height, rows)
+}
+
+fn reading_numbers(reader: sys::WordReader, bytes: &[u8], width: u32, height: u32, rows: &mut [u32]) -> (u64, u64, u64) {
     // SAFETY: pointers and lengths are those of two slices, which are not null and do not overlap.
-    let reading = unsafe { sys::fry_read_evt3(bytes.as_ptr(), bytes.len(), width, height, rows.as_mut_ptr(), rows.len()) };
+    let reading = unsafe { reader(bytes.as_ptr(), bytes.len(), width, height, rows.as_mut_ptr(), rows.len()) };
     (reading.refusal, reading.rows, reading.place)
+}
+
+/// All that `fry_write_evt2` answers: 0 and the number of words, or the refusal and the index of a row.
+#[doc(hidden)]
+pub fn evt2_written(rows: &[u32], out: &mut [u8]) -> (u64, u64) {
+    // SAFETY: as in `reading_numbers`.
+    let writing = unsafe { sys::fry_write_evt2(rows.as_ptr(), rows.len(), out.as_mut_ptr(), out.len()) };
+    (writing.refusal, writing.count)
 }
 
 /// All that `fry_event_of` answers, refused or not: the refusal, kind, time, data and the bits of the readings.

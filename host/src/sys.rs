@@ -8,6 +8,12 @@ pub struct FryReading {
 }
 
 #[repr(C)]
+pub struct FryWriting {
+    pub refusal: u64,
+    pub count: u64,
+}
+
+#[repr(C)]
 pub struct FryEvent {
     pub refusal: u64,
     pub kind: u64,
@@ -16,7 +22,12 @@ pub struct FryEvent {
     pub readings: [f32; 7],
 }
 
+/// What every reader of words is: bytes and their number, width, height, rows and how many numbers they have.
+pub type WordReader = unsafe extern "C" fn(*const u8, usize, u32, u32, *mut u32, usize) -> FryReading;
+
 extern "C" {
     pub fn fry_event_of(row: *const u32, len: usize) -> FryEvent;
+    pub fn fry_read_evt2(bytes: *const u8, bytes_len: usize, width: u32, height: u32, rows: *mut u32, rows_len: usize) -> FryReading;
+    pub fn fry_write_evt2(rows: *const u32, rows_len: usize, out: *mut u8, out_len: usize) -> FryWriting;
     pub fn fry_read_evt3(bytes: *const u8, bytes_len: usize, width: u32, height: u32, rows: *mut u32, rows_len: usize) -> FryReading;
 }

@@ -1,32 +1,16 @@
 //! EVT3 words with the rows that they are to give, written by hand. The library, the second implementation and the hand-written
 //! reader each have to give them.
-use fryskelom::samples::evt3::{bytes_of, Picture};
-use fryskelom::{fast, read_evt3, second, Fault, Refusal};
+#[path = "common/cases.rs"]
+mod cases;
 
-struct Case {
-    name: &'static str,
-    /// Words that give no row and are not refused.
-    before: &'static [u16],
-    words: &'static [u16],
-    /// Half a word after them.
-    half: Option<u8>,
-    picture: Picture,
-    room: usize,
-    rows: &'static [[u32; 10]],
-    /// The refusal and its place.
-    fault: Option<(u64, usize)>,
-}
+use cases::{check, into_buffer};
+use fryskelom::samples::evt3::bytes_of;
+use fryskelom::samples::{pixel, trigger};
+use fryskelom::{fast, read_evt3, second};
 
-/// What a case is where it says nothing else: the largest picture, room for more rows than there are, no refusal.
-const PLAIN: Case = Case { name: "", before: &[], words: &[], half: None, picture: (2_048, 2_048), room: 16, rows: &[], fault: None };
+type Case = cases::Case<u16>;
 
-const fn pixel(time: u64, x: u32, y: u32, polarity: u32) -> [u32; 10] {
-    [1, time as u32, (time >> 32) as u32, x, y, polarity, 0, 0, 0, 0]
-}
-
-const fn trigger(time: u64, channel: u32, edge: u32) -> [u32; 10] {
-    [2, time as u32, (time >> 32) as u32, channel, edge, 0, 0, 0, 0, 0]
-}
+const PLAIN: Case = Case::PLAIN;
 
 /// Time 0 and line 3.
 const TIME_AND_Y: &[u16] = &[0x8000, 0x6000, 0x0003];
@@ -45,17 +29,17 @@ const ALL_WRAPS: &[u16] = &{
 const CASES: &[Case] = &[
     // the end of the input
     Case { name: "no input", ..PLAIN },
-    Case { name: "one byte", half: Some(0x05), fault: Some((4, 0)), ..PLAIN },
+    Case { name: "one byte", part: &[0x05], fault: Some((4, 0)), ..PLAIN },
     Case {
         name: "half a word after a pixel",
         before: TIME_AND_Y,
         words: &[0x2005],
-        half: Some(0x05),
+        part: &[0x05],
         rows: &[pixel(0, 5, 3, 0)],
         fault: Some((4, 8)),
         ..PLAIN
     },
-    Case { name: "half a word after a word at fault", words: &[0x1000], half: Some(0x05), fault: Some((3, 0)), ..PLAIN },
+    Case { name: "half a word after a word at fault", words: &[0x1000], part: &[0x05], fault: Some((3, 0)), ..PLAIN },
     // the clock
     Case { name: "one pixel", words: &[0x8001, 0x6002, 0x0003, 0x2805], rows: &[pixel(4_098, 5, 3, 1)], ..PLAIN },
     Case {
@@ -202,45 +186,22 @@ const CASES: &[Case] = &[
     Case { name: "neither room nor inside", before: TIME_AND_Y, words: &[0x2005], picture: (5, 5), room: 0, fault: Some((6, 6)), ..PLAIN },
     // pictures that cannot be asked for
     Case { name: "no width", words: &[0x1000], picture: (0, 1), fault: Some((14, 0)), ..PLAIN },
-    Case { name: "no height", half: Some(0), picture: (1, 0), fault: Some((14, 0)), ..PLAIN },
+    Case { name: "no height", part: &[0], picture: (1, 0), fault: Some((14, 0)), ..PLAIN },
     Case { name: "a width of 2,049", words: &[0x0803], picture: (2_049, 1), fault: Some((14, 0)), ..PLAIN },
     Case { name: "a height of 2,049", words: &[0x8000, 0x6000], picture: (1, 2_049), fault: Some((14, 0)), ..PLAIN },
 ];
 
-type Reader = fn(&[u8], u32, u32, &mut [u32]) -> Result<usize, Fault>;
-
-/// Reads a case into a buffer of sevens that is a few numbers longer than its room, and looks at all of it afterwards.
-fn check(case: &Case, by: &str, reader: Reader) {
-    let mut rows = vec![7; 10 * case.room + 9];
-    let mut expected = rows.clone();
-    expected[..10 * case.rows.len()].copy_from_slice(case.rows.as_flattened());
-    let answer = reader(&bytes(case), case.picture.0, case.picture.1, &mut rows);
-    let fault = |(refusal, place)| Fault { refusal: Refusal(refusal), rows: case.rows.len(), place };
-    assert_eq!(answer, case.fault.map(fault).map_or(Ok(case.rows.len()), Err), "{}, by {by}", case.name);
-    assert_eq!(rows, expected, "{}, by {by}", case.name);
-}
-
-fn bytes(case: &Case) -> Vec<u8> {
-    let mut bytes = bytes_of(&[case.before, case.words].concat());
-    bytes.extend(case.half);
-    bytes
-}
-
 #[test]
 fn by_the_library() {
-    CASES.iter().for_each(|case| check(case, "the library", read_evt3));
+    check(CASES, bytes_of, read_evt3);
 }
 
 #[test]
 fn by_the_hand_written_reader() {
-    CASES.iter().for_each(|case| check(case, "the hand-written reader", fast::evt3::read));
+    check(CASES, bytes_of, fast::evt3::read);
 }
 
 #[test]
 fn by_the_second_implementation() {
-    for case in CASES {
-        let reading = second::evt3::read(&bytes(case), case.picture.0, case.picture.1, case.room);
-        assert_eq!((reading.refusal, reading.place), case.fault.unwrap_or((0, 0)), "{}", case.name);
-        assert_eq!(reading.rows, case.rows, "{}", case.name);
-    }
+    check(CASES, bytes_of, into_buffer(second::evt3::read));
 }

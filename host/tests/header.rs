@@ -20,12 +20,23 @@ static void show(const uint32_t *row, size_t len) {
     printf("\n");
 }
 
-static void show_reading(const uint8_t *bytes, size_t len) {
+typedef fry_reading reader(const uint8_t *, size_t, uint32_t, uint32_t, uint32_t *, size_t);
+
+static void show_reading(reader *read, const uint8_t *bytes, size_t len) {
     uint32_t rows[20];
     for (int i = 0; i < 20; i++) rows[i] = 7;
-    fry_reading r = fry_read_evt3(bytes, len, 1280, 720, rows, 20);
+    fry_reading r = read(bytes, len, 1280, 720, rows, 20);
     printf("%" PRIu64 " %" PRIu64 " %" PRIu64, r.refusal, r.rows, r.place);
     for (int i = 0; i < 20; i++) printf(" %" PRIu32, rows[i]);
+    printf("\n");
+}
+
+static void show_writing(const uint32_t *rows, size_t len) {
+    uint8_t out[12];
+    memset(out, 7, 12);
+    fry_writing w = fry_write_evt2(rows, len, out, 12);
+    printf("%" PRIu64 " %" PRIu64, w.refusal, w.count);
+    for (int i = 0; i < 12; i++) printf(" %02x", (unsigned)out[i]);
     printf("\n");
 }
 
@@ -35,9 +46,15 @@ int main(void) {
     show(imu, 10);
     show(bad, 10);
     show(imu, 9);
-    const uint8_t words[10] = {0x01, 0x80, 0x02, 0x60, 0x03, 0x00, 0x05, 0x28, 0x00, 0x10};
-    show_reading(words, 8);
-    show_reading(words, 10);
+    const uint8_t evt3[10] = {0x01, 0x80, 0x02, 0x60, 0x03, 0x00, 0x05, 0x28, 0x00, 0x10};
+    show_reading(fry_read_evt3, evt3, 8);
+    show_reading(fry_read_evt3, evt3, 10);
+    const uint8_t evt2[12] = {0x01, 0x00, 0x00, 0x80, 0x03, 0x28, 0x80, 0x10, 0x00, 0x00, 0x00, 0x20};
+    show_reading(fry_read_evt2, evt2, 8);
+    show_reading(fry_read_evt2, evt2, 12);
+    const uint32_t list[20] = {1, 66, 0, 5, 3, 1, 0, 0, 0, 0, 2, 7, 1, 32, 1, 0, 0, 0, 0, 0};
+    show_writing(list, 10);
+    show_writing(list, 20);
     return sizeof(fry_reading) == 24 && sizeof(fry_writing) == 16 ? 0 : 1;
 }
 "#;
@@ -48,6 +65,10 @@ const EXPECTED: &str = "\
 13 0 0 0 0 0 0 0 0 0 00000000 00000000 00000000 00000000 00000000 00000000 00000000
 0 1 0 1 4098 0 5 3 1 0 0 0 0 7 7 7 7 7 7 7 7 7 7
 3 1 8 1 4098 0 5 3 1 0 0 0 0 7 7 7 7 7 7 7 7 7 7
+0 1 0 1 66 0 5 3 1 0 0 0 0 7 7 7 7 7 7 7 7 7 7
+3 1 8 1 66 0 5 3 1 0 0 0 0 7 7 7 7 7 7 7 7 7 7
+0 2 01 00 00 80 03 28 80 10 07 07 07 07
+12 1 07 07 07 07 07 07 07 07 07 07 07 07
 ";
 
 #[test]

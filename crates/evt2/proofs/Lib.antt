@@ -1,2 +1,3 @@
 -- Lemmas, and the laws proved (Kept).
 pub mod Steps
+pub mod Spelled

@@ -19,6 +19,8 @@ mod given;
 mod kind;
 mod reader;
 mod state;
+mod writer;
 
 pub use reader::read;
 pub use state::State;
+pub use writer::write;

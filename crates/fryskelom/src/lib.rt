@@ -7,10 +7,13 @@ ghost use Rattle.rows.specs.Event.{eventNumbers};
 ghost use Rattle.rows.specs.Row.{roomOf};
 ghost use Rattle.rows.specs.Runs.{ReadNumbers};
 ghost use Rattle.words.specs.Picture.{pictureOf};
+ghost use Rattle.words.specs.Writer.{WroteNumbers};
 ghost use Rattle.evt2.specs.Reader as evt2;
+ghost use Rattle.evt2.specs.Spelling.{spelling};
 ghost use Rattle.evt3.specs.Reader as evt3;
 use rows::EventNumbers;
 use rows::ReadingNumbers;
+use rows::WritingNumbers;
 
 // The event of a row of ten numbers.
 #[no_mangle]
@@ -31,6 +34,14 @@ pub extern "C" fn fry_read_evt2(
     ensures { λ r. ⌜ ReadNumbers (evt2.readingOf (pictureOf width height) (now (bytes .entry)) (roomOf (now (rows .entry)))) (now (rows .entry)) (now (rows .exit)) r ⌝ }
 {
     evt2::read(bytes, width, height, rows).numbers()
+}
+
+// The EVT2 words of rows.
+#[no_mangle]
+pub extern "C" fn fry_write_evt2(rows: &[u32], out: &mut [u8]) -> WritingNumbers
+    ensures { λ r. ⌜ WroteNumbers spelling (now (rows .entry)) (now (out .entry)) (now (out .exit)) r ⌝ }
+{
+    evt2::write(rows, out).numbers()
 }
 
 // The rows of EVT3 words.

@@ -3,12 +3,12 @@ use mathlib.Core.Path.{_≡_, refl, sym, _∙_, ap, subst}
 use Prim.Native.Nat.{ℕ, suc, _+_, _-_, _*_, _≤_, _<_}
 use native.Mathlib.Numerals.{add-one}
 use native.Mathlib.Omega.{arith}
-use mathlib.Core.Bool.{Bool, true, false}
+use mathlib.Core.Bool.{Bool, true, false, cond, _&&_}
 use mathlib.Core.List.{List, [], _∷_}
 use lib.Dec.{ltb}
 use borrow.Author.Tests.{lt-ltb, le-ltb, ltb-false}
 use Rattle.rows.specs.declared.fault.Fault.{Fault}
-use Rattle.rows.specs.declared.fault.Fault.the-variants.{BadTime}
+use Rattle.rows.specs.declared.fault.Fault.the-variants.{BadTime, BadRow}
 use Rattle.rows.specs.declared.row.Row.{Row}
 use Rattle.rows.specs.declared.rules.Judged.the-variants.{Time, Refused}
 use Rattle.rows.specs.Row.{timeOf, roomOf, rowFrom, rowsFrom, rowsOf}
@@ -23,6 +23,16 @@ module _ (r : Row) {writable : Bool} {t : ℕ} (last : ℕ) (g : goodRow r ≡ t
   pub judged-time : last ≤ t → Time t ≡ judgedOf writable r last
   unfolding judgedOf
   judged-time h = simp (g, w, le-ltb (timeOf r) last (subst (λ (k : ℕ). last ≤ k) e h)) (ap Time e)
+
+-- and a row that is not refused has that time
+pub judged-is-time : (writable : Bool) (r : Row) (last : ℕ) {t : ℕ} → Time t ≡ judgedOf writable r last → t ≡ timeOf r
+unfolding judgedOf
+judged-is-time writable r last {t} e = go (goodRow r && writable) (ltb (timeOf r) last) e
+  where
+    go : (g b : Bool) → Time t ≡ cond g (cond b (Refused BadTime) (Time (timeOf r))) (Refused BadRow) → t ≡ timeOf r
+    go true true f = let z : _≡_ {A = ℕ} 0 1 = cc in absurd (omega arith)
+    go true false f = cc
+    go false b f = let z : _≡_ {A = ℕ} 0 1 = cc in absurd (omega arith)
 
 no-refusal : {E : Type 0} {f : Fault} {i : ℕ} → refused f i ≡ accepted → E
 no-refusal e = let z : _≡_ {A = ℕ} 0 1 = cc in absurd (omega arith)

@@ -3,11 +3,15 @@ use mathlib.Core.Path.{_≡_, refl, sym, _∙_, ap, ap₂}
 use Prim.Native.Nat.{ℕ, zero, suc, _+_, _-_, _*_, _/_, _%_, _≤_, _<_}
 use native.Mathlib.Omega.{arith}
 use native.Mathlib.Nat.{add-assoc}
+use mathlib.Core.Bool.{Bool, true, false, cond}
 use mathlib.Core.List.{List, [], _∷_, _++_}
 use lib.ListN.{length, take, drop, getD, length-drop}
+use lib.Dec.{ltb}
 use lib.Seq.{drop-cons, drop-drop, take-add, take-all, getD-append-add}
+use borrow.Author.Tests.{ltb-true, ltb-false}
 use Rattle.rows.specs.declared.row.Row.{Row}
-use Rattle.rows.specs.Row.{numbers, flat, roomOf, rowFrom, rowsFrom, rowsOf}
+use Rattle.rows.specs.declared.row.RowAt.the-variants.{Found, Nothing}
+use Rattle.rows.specs.Row.{numbers, flat, roomOf, rowFrom, rowAt, rowsFrom, rowsOf}
 use Rattle.rows.proofs.Stored.{flat-length}
 
 -- the k numbers from a place on, one by one
@@ -79,3 +83,19 @@ unfolding rowsOf
 rows-of-flat rs =
     let n : length (flat rs) / 10 ≡ length rs = omega (arith, flat-length rs) in
     ap (rowsFrom (flat rs) 0) n ∙ rows-flat rs
+
+-- what `rows::get` found of a list
+module _ (l : List ℕ) (i : ℕ) where
+  pub row-found : {r : Row} → Found r ≡ rowAt l i → (i < roomOf l) × (r ≡ rowFrom l (i * 10))
+  row-found {r} e = go (ltb i (roomOf l)) refl e
+    where
+      go : (t : Bool) → ltb i (roomOf l) ≡ t → Found r ≡ cond t (Found (rowFrom l (i * 10))) Nothing → (i < roomOf l) × (r ≡ rowFrom l (i * 10))
+      go true f g = (ltb-true _ _ f, cc)
+      go false f g = let z : _≡_ {A = ℕ} 0 1 = cc in absurd (omega arith)
+
+  pub row-past : Nothing ≡ rowAt l i → roomOf l ≤ i
+  row-past e = go (ltb i (roomOf l)) refl e
+    where
+      go : (t : Bool) → ltb i (roomOf l) ≡ t → Nothing ≡ cond t (Found (rowFrom l (i * 10))) Nothing → roomOf l ≤ i
+      go true f g = let z : _≡_ {A = ℕ} 0 1 = cc in absurd (omega arith)
+      go false f g = ltb-false _ _ f

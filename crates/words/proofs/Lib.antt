@@ -7,4 +7,6 @@ pub mod Cut
 pub mod Kept
 pub mod RowsGiven
 pub mod TwoParts
+pub mod Writes
+pub mod Writings
 pub mod Wrote

@@ -4,4 +4,5 @@ pub mod Machine
 pub mod Picture
 pub mod Promises
 pub mod Words
+pub mod Writer
 pub mod Written

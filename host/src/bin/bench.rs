@@ -1,17 +1,30 @@
-//! Rows per second of the library's EVT3 reader beside a reader written by hand in Rust, both into the same buffer in one run.
-//! They read in turn, and the middle one of each one's times counts. Nothing here passes or fails by its time.
-use fryskelom::samples::evt3::{recording, Picture, Scene};
-use fryskelom::samples::Numbers;
-use fryskelom::{fast, read_evt3, Fault};
+//! Rows per second of the library's readers and writers beside ones made by hand in Rust, into the same buffer in one run.
+//! They work in turn, and the middle one of each one's times counts. Nothing here passes or fails by its time.
+use fryskelom::samples::{evt2, evt3, Numbers, Picture};
+use fryskelom::{fast, read_evt2, read_evt3, write_evt2};
 use std::hint::black_box;
 use std::time::Instant;
 
 const PICTURE: Picture = (1_280, 720);
 const ROUNDS: usize = 15;
-const STREAMS: [(&str, Scene); 4] =
-    [("single pixels", Scene::Pixels), ("dense vectors", Scene::Dense), ("sparse vectors", Scene::Sparse), ("mixed", Scene::Mixed)];
+const STREAMS: [(&str, Measure); 8] = [
+    ("EVT3, single pixels", |events| reading_evt3(evt3::Scene::Pixels, events)),
+    ("EVT3, dense vectors", |events| reading_evt3(evt3::Scene::Dense, events)),
+    ("EVT3, sparse vectors", |events| reading_evt3(evt3::Scene::Sparse, events)),
+    ("EVT3, mixed", |events| reading_evt3(evt3::Scene::Mixed, events)),
+    ("EVT2, single pixels", |events| reading_evt2(evt2::Scene::Pixels, events)),
+    ("EVT2, mixed with IMU", |events| reading_evt2(evt2::Scene::Mixed, events)),
+    ("EVT2 written, pixels", |events| writing_evt2(evt2::Scene::Pixels, events)),
+    ("EVT2 written, mixed", |events| writing_evt2(evt2::Scene::Mixed, events)),
+];
+/// Of these it is also shown what a row costs as they grow.
+const GROWING: [usize; 3] = [3, 5, 7];
 
-type Reader = fn(&[u8], u32, u32, &mut [u32]) -> Result<usize, Fault>;
+/// Times a stream of at least so many events.
+type Measure = fn(usize) -> Measured;
+
+/// From an input into a buffer; answers how many rows or words it has put there.
+type Way<I, O> = fn(&[I], &mut [O]) -> usize;
 
 /// The seconds that each took for so many rows.
 struct Measured {
@@ -22,58 +35,84 @@ struct Measured {
 }
 
 fn main() {
-    println!("{:<16}{:>10}{:>24}{:>20}{:>8}", "stream", "rows", "hand-written Mrows/s", "library Mrows/s", "ratio");
-    for (name, scene) in STREAMS {
-        let Measured { rows, hand_written, library, .. } = measure(scene, 2_000_000);
+    println!("{:<24}{:>10}{:>24}{:>20}{:>8}", "stream", "rows", "hand-written Mrows/s", "library Mrows/s", "ratio");
+    for (name, measure) in STREAMS {
+        let Measured { rows, hand_written, library, .. } = measure(2_000_000);
         let speed = |seconds: f64| rows as f64 / seconds / 1e6;
-        println!("{name:<16}{rows:>10}{:>24.1}{:>20.1}{:>8.2}", speed(hand_written), speed(library), hand_written / library);
+        println!("{name:<24}{rows:>10}{:>24.1}{:>20.1}{:>8.2}", speed(hand_written), speed(library), hand_written / library);
     }
     println!();
-    // the buffer outgrows the caches, so that memory costs more for each row; what this is shows where nothing is read
-    println!("{:<16}{:>10}{:>24}{:>20}{:>20}", "mixed, longer", "rows", "hand-written ns/row", "library ns/row", "filling ns/row");
-    for times in [1, 4, 16] {
-        let Measured { rows, hand_written, library, filling } = measure(Scene::Mixed, times * 250_000);
-        let cost = |seconds: f64| seconds / rows as f64 * 1e9;
-        println!("{:<16}{rows:>10}{:>24.2}{:>20.2}{:>20.2}", format!("{times}x"), cost(hand_written), cost(library), cost(filling));
+    // rows outgrow the caches, so that memory costs more for each of them; the last column is the lent buffer's share, where nothing is read
+    println!("{:<24}{:>10}{:>24}{:>20}{:>20}", "longer and longer", "rows", "hand-written ns/row", "library ns/row", "filling ns/row");
+    for (name, measure) in GROWING.map(|stream| STREAMS[stream]) {
+        for times in [1, 4, 16] {
+            let Measured { rows, hand_written, library, filling } = measure(times * 250_000);
+            let cost = |seconds: f64| seconds / rows as f64 * 1e9;
+            println!("{:<24}{rows:>10}{:>24.2}{:>20.2}{:>20.2}", format!("{name}, {times}x"), cost(hand_written), cost(library), cost(filling));
+        }
     }
 }
 
-/// Times both readers, and a filling of the buffer, on a recording of at least so many events, after both have given the same rows.
-fn measure(scene: Scene, events: usize) -> Measured {
-    let bytes = recording(scene, PICTURE, 0, events, &mut Numbers::new(0x2545_f491_4f6c_dd1d));
-    // the last scene may give more events than were asked for, by far fewer than this
-    let mut buffer = vec![u32::MAX; 10 * (events + 1_000)];
-    let rows = same_rows(&bytes, &mut buffer);
+fn reading_evt3(scene: evt3::Scene, events: usize) -> Measured {
+    let bytes = evt3::recording(scene, PICTURE, 0, events, &mut numbers());
+    let by_hand = |bytes: &[u8], rows: &mut [u32]| fast::evt3::read(bytes, PICTURE.0, PICTURE.1, rows).expect("no refusal");
+    let library = |bytes: &[u8], rows: &mut [u32]| read_evt3(bytes, PICTURE.0, PICTURE.1, rows).expect("no refusal");
+    reading(&bytes, events, [by_hand, library])
+}
 
-    let mut times = [[0.0; ROUNDS]; 3];
-    for round in 0..ROUNDS {
-        for (reader, times) in [fast::evt3::read as Reader, read_evt3, fill].into_iter().zip(&mut times) {
-            times[round] = seconds(reader, &bytes, &mut buffer[..10 * rows]);
-        }
-    }
-    let [hand_written, library, filling] = times.map(middle);
+fn reading_evt2(scene: evt2::Scene, events: usize) -> Measured {
+    let bytes = evt2::recording(scene, PICTURE, 0, events, &mut numbers());
+    let by_hand = |bytes: &[u8], rows: &mut [u32]| fast::evt2::read(bytes, PICTURE.0, PICTURE.1, rows).expect("no refusal");
+    let library = |bytes: &[u8], rows: &mut [u32]| read_evt2(bytes, PICTURE.0, PICTURE.1, rows).expect("no refusal");
+    reading(&bytes, events, [by_hand, library])
+}
+
+fn writing_evt2(scene: evt2::Scene, events: usize) -> Measured {
+    let rows = evt2::list(scene, PICTURE, 0, events, &mut numbers());
+    let by_hand = |rows: &[u32], out: &mut [u8]| fast::evt2::write(rows, out).expect("no refusal");
+    let library = |rows: &[u32], out: &mut [u8]| write_evt2(rows, out).expect("no refusal");
+    // a word takes four bytes, a row seven words at most
+    let (_, [hand_written, library, filling]) = measure(rows.as_flattened(), vec![u8::MAX; 28 * rows.len()], 4, [by_hand, library]);
+    Measured { rows: rows.len(), hand_written, library, filling }
+}
+
+/// Times two readers of a recording.
+fn reading(bytes: &[u8], events: usize, ways: [Way<u8, u32>; 2]) -> Measured {
+    // a recording may give more events than were asked for: what its last scene has, and other kinds of rows
+    let (rows, [hand_written, library, filling]) = measure(bytes, vec![u32::MAX; 10 * (events + events / 8 + 1_000)], 10, ways);
     Measured { rows, hand_written, library, filling }
 }
 
-/// How many rows a recording has. Both readers have to give the same ones and no refusal.
-fn same_rows(bytes: &[u8], buffer: &mut [u32]) -> usize {
-    let mut by_hand = buffer.to_vec();
-    let rows = fast::evt3::read(bytes, PICTURE.0, PICTURE.1, &mut by_hand).expect("a recording that is not refused");
-    assert_eq!(read_evt3(bytes, PICTURE.0, PICTURE.1, buffer), Ok(rows));
-    assert!(buffer == by_hand, "the two readers give different rows");
-    rows
+fn numbers() -> Numbers {
+    Numbers::new(0x2545_f491_4f6c_dd1d)
 }
 
-/// Writes as many numbers as a reader does, and reads nothing.
-fn fill(_: &[u8], _: u32, _: u32, rows: &mut [u32]) -> Result<usize, Fault> {
-    rows.fill(1);
-    Ok(rows.len() / 10)
+/// Times two ways, and a filling of the part of the buffer that they use, after both have put the same there: so many rows or words of
+/// a size.
+fn measure<I, O: Copy + PartialEq + From<u8>>(input: &[I], mut buffer: Vec<O>, size: usize, [by_hand, library]: [Way<I, O>; 2]) -> (usize, [f64; 3]) {
+    let mut other = buffer.clone();
+    let count = by_hand(input, &mut other);
+    assert_eq!(library(input, &mut buffer), count);
+    assert!(buffer == other, "the two put different things into the buffer");
+
+    let mut times = [[0.0; ROUNDS]; 3];
+    for round in 0..ROUNDS {
+        for (way, times) in [by_hand, library, fill].into_iter().zip(&mut times) {
+            times[round] = seconds(way, input, &mut buffer[..size * count]);
+        }
+    }
+    (count, times.map(middle))
 }
 
-fn seconds(reader: Reader, bytes: &[u8], buffer: &mut [u32]) -> f64 {
+/// Fills the buffer, and reads nothing.
+fn fill<I, O: Copy + From<u8>>(_: &[I], out: &mut [O]) -> usize {
+    out.fill(O::from(1));
+    out.len()
+}
+
+fn seconds<I, O>(way: Way<I, O>, input: &[I], buffer: &mut [O]) -> f64 {
     let start = Instant::now();
-    let answer = reader(black_box(bytes), PICTURE.0, PICTURE.1, black_box(buffer));
-    black_box(answer).expect("a recording that is not refused");
+    black_box(way(black_box(input), black_box(buffer)));
     start.elapsed().as_secs_f64()
 }
 

@@ -1,29 +1,16 @@
 //! The reader of EVT3 words.
+use super::{admit, CUT, NO_ROOM, OUTSIDE, RESERVED, SIDE, TIME};
 use crate::{Fault, Refusal};
 use std::slice::IterMut;
 
-const TOO_LONG: Refusal = Refusal(1);
-const NO_ROOM: Refusal = Refusal(2);
-const RESERVED: Refusal = Refusal(3);
-const HALF_A_WORD: Refusal = Refusal(4);
-const PAST_LAST_TIME: Refusal = Refusal(5);
-const OUTSIDE: Refusal = Refusal(6);
 const SLAVE: Refusal = Refusal(7);
-const NO_PICTURE: Refusal = Refusal(14);
 
-const MOST_BYTES: usize = 1 << 30;
 const MOST_WRAPS: u32 = 1_023;
-const SIDE: u32 = 2_048;
 
 /// Does what `fryskelom::read_evt3` does.
 pub fn read(bytes: &[u8], width: u32, height: u32, rows: &mut [u32]) -> Result<usize, Fault> {
+    admit(bytes, width, height)?;
     let fault = |refusal, rows, place| Err(Fault { refusal, rows, place });
-    if bytes.len() > MOST_BYTES {
-        return fault(TOO_LONG, 0, 0);
-    }
-    if !(1..=SIDE).contains(&width) || !(1..=SIDE).contains(&height) {
-        return fault(NO_PICTURE, 0, 0);
-    }
     let (rows, _) = rows.as_chunks_mut();
     let (words, half) = bytes.as_chunks();
     let room = rows.len();
@@ -36,7 +23,7 @@ pub fn read(bytes: &[u8], width: u32, height: u32, rows: &mut [u32]) -> Result<u
     let finished = room - reader.rows.len();
     match half {
         [] => Ok(finished),
-        _ => fault(HALF_A_WORD, finished, 2 * words.len()),
+        _ => fault(CUT, finished, 2 * words.len()),
     }
 }
 
@@ -94,7 +81,7 @@ impl Reader<'_> {
     fn time_high(&mut self, high: u32) -> Result<(), Refusal> {
         if self.high.is_some_and(|previous| high < previous) {
             if self.wraps == MOST_WRAPS {
-                return Err(PAST_LAST_TIME);
+                return Err(TIME);
             }
             self.wraps += 1;
         }

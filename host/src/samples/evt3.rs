@@ -1,8 +1,5 @@
 //! EVT3 recordings as a camera sends them.
-use super::Numbers;
-
-/// Width and height in pixels.
-pub type Picture = (u32, u32);
+use super::{Numbers, Picture};
 
 /// What a camera sees.
 #[derive(Clone, Copy, Debug)]
@@ -21,8 +18,7 @@ pub enum Scene {
 pub fn recording(scene: Scene, picture: Picture, start: u64, events: usize, numbers: &mut Numbers) -> Vec<u8> {
     let mut camera = Camera::new(start);
     while camera.events < events {
-        let pause = if numbers.once_in(64) { 40 } else { 2 };
-        camera.wait(1 + u64::from(numbers.below(pause)));
+        camera.wait(numbers.pause());
         camera.see(scene, picture, numbers);
     }
     camera.bytes()

@@ -1,6 +1,30 @@
 //! Inputs made up for tests and the benchmark; the same ones in every run.
 
+pub mod evt2;
 pub mod evt3;
+
+/// Width and height in pixels.
+pub type Picture = (u32, u32);
+
+/// A row of any kind and data.
+pub const fn row(kind: u32, time: u64, [a, b, c, d, e, f, g]: [u32; 7]) -> [u32; 10] {
+    [kind, time as u32, (time >> 32) as u32, a, b, c, d, e, f, g]
+}
+
+/// The row of a pixel.
+pub const fn pixel(time: u64, x: u32, y: u32, polarity: u32) -> [u32; 10] {
+    row(1, time, [x, y, polarity, 0, 0, 0, 0])
+}
+
+/// The row of a trigger.
+pub const fn trigger(time: u64, channel: u32, edge: u32) -> [u32; 10] {
+    row(2, time, [channel, edge, 0, 0, 0, 0, 0])
+}
+
+/// The row of the six counts of an IMU.
+pub const fn imu(time: u64, [a, b, c, d, e, f]: [u32; 6]) -> [u32; 10] {
+    row(3, time, [a, b, c, d, e, f, 0])
+}
 
 /// Numbers that look random and repeat from run to run.
 pub struct Numbers(u64);
@@ -28,6 +52,12 @@ impl Numbers {
     /// True once in so many times.
     pub fn once_in(&mut self, times: u32) -> bool {
         self.below(times) == 0
+    }
+
+    /// Microseconds until a camera sees something again: mostly one or two.
+    pub fn pause(&mut self) -> u64 {
+        let most = if self.once_in(64) { 40 } else { 2 };
+        1 + u64::from(self.below(most))
     }
 
     /// One of the given values.

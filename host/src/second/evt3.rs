@@ -1,5 +1,7 @@
 //! The reader of EVT3 words. The rows that a word gives and the state that it leaves are two functions of the state before it; a third
 //! one says whether it is refused.
+use super::rows::{row, Row};
+use super::words::{refusal_before_words, Reading, SIDE};
 
 const ADDR_Y: u32 = 0;
 const ADDR_X: u32 = 2;
@@ -11,22 +13,7 @@ const TIME_HIGH: u32 = 8;
 const TRIGGER: u32 = 10;
 const RESERVED: [u32; 5] = [1, 9, 11, 12, 13];
 
-const MOST_BYTES: usize = 1_073_741_824;
 const MOST_WRAPS: u64 = 1_023;
-/// The most columns or lines of a picture. A base stops here, one past the last column.
-const SIDE: u32 = 2_048;
-
-/// What a reading is to answer.
-pub struct Reading {
-    /// 0 where the whole input was read.
-    pub refusal: u64,
-    /// The finished rows.
-    pub rows: Vec<[u32; 10]>,
-    /// The first byte of the word at fault; 0 where there is none.
-    pub place: usize,
-    /// For each word that was read without refusal, how many rows it gave.
-    pub given: Vec<usize>,
-}
 
 /// What the words so far have told. A fresh reader knows nothing.
 #[derive(Clone, Copy, Default)]
@@ -79,25 +66,20 @@ impl Word {
 
 /// Reads words into at most `room` rows, for a picture of `width` by `height` pixels.
 pub fn read(bytes: &[u8], width: u32, height: u32, room: usize) -> Reading {
-    let mut reading = Reading { refusal: 0, rows: vec![], place: 0, given: vec![] };
-    if bytes.len() > MOST_BYTES {
-        reading.refusal = 1;
-        return reading;
-    }
-    if [width, height].iter().any(|&side| side == 0 || side > SIDE) {
-        reading.refusal = 14;
+    let mut reading = Reading { refusal: refusal_before_words(bytes, width, height), ..Reading::default() };
+    if reading.refusal != 0 {
         return reading;
     }
     let mut state = State::default();
     for (index, word) in bytes.chunks(2).enumerate() {
         let &[low, high] = word else {
-            return Reading { refusal: 4, place: 2 * index, ..reading };
+            return reading.refused(4, 2 * index);
         };
         let word = Word::of_bytes(low, high);
         let (rows, next) = (rows_of(&state, word), state_after(&state, word));
         let refusal = refusal_of(word, &next, &rows, width, height, room - reading.rows.len());
         if refusal != 0 {
-            return Reading { refusal, place: 2 * index, ..reading };
+            return reading.refused(refusal, 2 * index);
         }
         reading.given.push(rows.len());
         reading.rows.extend(rows);
@@ -107,21 +89,17 @@ pub fn read(bytes: &[u8], width: u32, height: u32, room: usize) -> Reading {
 }
 
 /// The rows that a word gives.
-fn rows_of(state: &State, word: Word) -> Vec<[u32; 10]> {
+fn rows_of(state: &State, word: Word) -> Vec<Row> {
     let Some(time) = state.time else { return vec![] };
     match (word.kind, state.y, state.base) {
-        (ADDR_X, Some(y), _) => vec![row(1, time, [word.address(), y, word.bit(11)])],
+        (ADDR_X, Some(y), _) => vec![row(1, time, &[word.address(), y, word.bit(11)])],
         (VECT_12 | VECT_8, Some(y), Some(base)) => {
             let set = (0..word.columns()).filter(|&i| word.bit(i) == 1);
-            set.map(|i| row(1, time, [base.x + i, y, base.polarity])).collect()
+            set.map(|i| row(1, time, &[base.x + i, y, base.polarity])).collect()
         }
-        (TRIGGER, _, _) => vec![row(2, time, [word.data / 256, word.bit(0), 0])],
+        (TRIGGER, _, _) => vec![row(2, time, &[word.data / 256, word.bit(0)])],
         _ => vec![],
     }
-}
-
-fn row(kind: u32, time: u64, [a, b, c]: [u32; 3]) -> [u32; 10] {
-    [kind, (time % 4_294_967_296) as u32, (time / 4_294_967_296) as u32, a, b, c, 0, 0, 0, 0]
 }
 
 /// The state after a word.
@@ -131,6 +109,7 @@ fn state_after(state: &State, word: Word) -> State {
     match word.kind {
         ADDR_Y => next.y = Some(word.address()),
         BASE_X => next.base = Some(Base { x: word.address(), polarity: word.bit(11) }),
+        // the base stops one past the last column
         VECT_12 | VECT_8 => next.base = state.base.map(|base| Base { x: (base.x + word.columns()).min(SIDE), ..base }),
         TIME_HIGH => {
             if state.high.is_some_and(|previous| data < previous) {
@@ -149,7 +128,7 @@ fn state_after(state: &State, word: Word) -> State {
 }
 
 /// Why a word is refused, or 0: the first reason that holds. `room` is what the rows before it have left.
-fn refusal_of(word: Word, next: &State, rows: &[[u32; 10]], width: u32, height: u32, room: usize) -> u64 {
+fn refusal_of(word: Word, next: &State, rows: &[Row], width: u32, height: u32, room: usize) -> u64 {
     if RESERVED.contains(&word.kind) {
         3
     } else if word.kind == ADDR_Y && word.bit(11) == 1 {

@@ -1,6 +1,10 @@
-//! The row rules and the readings of an IMU.
+//! The row rules, the lists that can be written, and the readings of an IMU.
+
+/// Ten numbers: kind, time mod 2^32, time div 2^32, seven data numbers.
+pub type Row = [u32; 10];
 
 const TIMES: u64 = 1 << 34;
+const MOST_ROWS: usize = 16_777_216;
 
 /// For each kind 1 to 6 the number of values that each of its seven data numbers may take, from 0 on.
 const LIMITS: [[u64; 7]; 6] = {
@@ -27,11 +31,40 @@ pub fn limits(kind: u32) -> [u64; 7] {
     LIMITS[kind as usize - 1]
 }
 
+/// The row of an event; data that it does not use are 0.
+pub fn row(kind: u32, time: u64, data: &[u32]) -> Row {
+    let mut row = [0; 10];
+    row[..3].copy_from_slice(&[kind, (time % 4_294_967_296) as u32, (time / 4_294_967_296) as u32]);
+    row[3..3 + data.len()].copy_from_slice(data);
+    row
+}
+
+pub fn time_of(row: &Row) -> u64 {
+    u64::from(row[2]) << 32 | u64::from(row[1])
+}
+
 /// Whether ten numbers are a good row.
-pub fn good(row: &[u32; 10]) -> bool {
-    let time = u64::from(row[2]) << 32 | u64::from(row[1]);
+pub fn good(row: &Row) -> bool {
     let times = if row[0] == 5 { 1 } else { TIMES };
-    (1..=6).contains(&row[0]) && time < times && (0..7).all(|i| u64::from(row[3 + i]) < limits(row[0])[i])
+    (1..=6).contains(&row[0]) && time_of(row) < times && (0..7).all(|i| u64::from(row[3 + i]) < limits(row[0])[i])
+}
+
+/// Why a list cannot be written, whatever the buffer, and the index of the first row at fault. `writable` says for which good rows
+/// the format has words.
+pub fn first_fault(numbers: &[u32], writable: fn(&Row) -> bool) -> Option<(u64, usize)> {
+    let (rows, rest) = numbers.as_chunks();
+    if !rest.is_empty() || rows.len() > MOST_ROWS {
+        return Some((13, 0));
+    }
+    for (index, row) in rows.iter().enumerate() {
+        if !good(row) || !writable(row) {
+            return Some((12, index));
+        }
+        if index > 0 && time_of(row) < time_of(&rows[index - 1]) {
+            return Some((5, index));
+        }
+    }
+    None
 }
 
 /// The bits of the single nearest to n / d, a tie to the even one, by whole numbers alone. Neither is so large or small that the
@@ -78,7 +111,7 @@ fn is_nan(bits: u32) -> bool {
 
 /// What the event of any numbers is to be. The bits of a NaN reading are free: they stand as `None`.
 pub fn event(row: &[u32]) -> (u64, u64, u64, [u32; 7], [Option<u32>; 7]) {
-    let Ok(row): Result<[u32; 10], _> = row.try_into() else {
+    let Ok(row): Result<Row, _> = row.try_into() else {
         return (13, 0, 0, [0; 7], [Some(0); 7]);
     };
     if !good(&row) {
@@ -96,5 +129,5 @@ pub fn event(row: &[u32]) -> (u64, u64, u64, [u32; 7], [Option<u32>; 7]) {
             _ => Some(0),
         };
     }
-    (0, u64::from(row[0]), u64::from(row[2]) << 32 | u64::from(row[1]), data, readings)
+    (0, u64::from(row[0]), time_of(&row), data, readings)
 }

@@ -1,0 +1,110 @@
+-- `evt2::writer::count` meets its contract.
+-- `evt2::writer::count` meets its contract.
+-- `evt2::writer::count` meets its contract.
+use Rattle.rows.specs.Row.{roomOf, rowFrom}
+use Rattle.rows.specs.declared.row.Row.{Row}
+use Prim.Native.Nat.{_*_, _-_, _<_}
+use mathlib.Core.Path.{_≡_, sym, _∙_}
+use borrow.Author.Needs.{needs}
+use Rattle.evt2.proofs.Spelled.{Counting, counting-start, counting-done, counting-refused, counting-next, row-short}
+use Rattle.rows.proofs.Lists.{row-found, row-past}
+use native.Mathlib.Omega.{arith}
+use Rattle.evt2.proofs.writer.count.Statement.{statement}
+use Rattle.evt2.proofs.writer.count.Tie as tie
+
+abbrev Inv-loop : tie.InvT-loop
+Inv-loop rows words₀ told₀ last₀ i₀ words told last i = Counting rows words told last i
+
+abbrev μ-loop : tie.MeasureT-loop
+μ-loop rows words₀ told₀ last₀ i₀ words told last i = roomOf rows - i
+
+-- where a row was found
+abbrev Found-place : Type 0
+Found-place = tie.After-known-told Inv-loop μ-loop
+
+abbrev row : Found-place → Row
+row d = d .before .found .given .0 .0
+
+here : (d : Found-place) → (d .before .before .before .before .loop .i < roomOf (d .before .before .before .before .before .before .args .rows .now)) × (row d ≡ rowFrom (d .before .before .before .before .before .before .args .rows .now) (d .before .before .before .before .loop .i * 10))
+here d = row-found (d .before .before .before .before .before .before .args .rows .now) (d .before .before .before .before .loop .i) (sym (d .before .found .given .1) ∙ d .before .before .before .get .ensures)
+
+loop-holds : tie.Need-loop-holds Inv-loop μ-loop
+loop-holds c = counting-start _
+
+get-requires : tie.Need-get-requires Inv-loop μ-loop
+get-requires c κs = search needs
+
+enum-told : tie.Need-enum-told Inv-loop μ-loop
+enum-told c = search needs
+
+returns : tie.Need-returns Inv-loop μ-loop
+returns c = counting-done (c .before .before .before .loop .inv) (row-past (c .before .before .before .before .before .args .rows .now) (c .before .before .before .loop .i) (sym (c .enum-told .given .1) ∙ c .before .before .get .ensures))
+
+enum-known-found : tie.Need-enum-known-found Inv-loop μ-loop
+enum-known-found c = search needs
+
+is-writable-requires : tie.Need-is-writable-requires Inv-loop μ-loop
+is-writable-requires c κs = search needs
+
+judge-requires : tie.Need-judge-requires Inv-loop μ-loop
+judge-requires c κs = search needs
+
+enum-known-judged : tie.Need-enum-known-judged Inv-loop μ-loop
+enum-known-judged c = search needs
+
+returns-2 : tie.Need-returns-2 Inv-loop μ-loop
+returns-2 c =
+    let at = here (c .before .before .before .before .before) in
+    counting-refused (c .before .before .before .before .before .before .before .before .before .loop .inv) (at .0) (at .1) (rw (sym (c .before .before .before .before .is-writable .ensures)) (sym (c .before .judged .given .1) ∙ c .before .before .before .judge .ensures))
+
+enum-known-judged-2 : tie.Need-enum-known-judged-2 Inv-loop μ-loop
+enum-known-judged-2 c = search needs
+
+clock-length-requires : tie.Need-clock-length-requires Inv-loop μ-loop
+clock-length-requires c κs = search needs
+
+event-length-requires : tie.Need-event-length-requires Inv-loop μ-loop
+event-length-requires c κs = search needs
+
+add-words : tie.Need-add-words Inv-loop μ-loop
+add-words c =
+    omega (arith, row-short _ _ _ _ (c .before .clock-length .ensures) (c .event-length .ensures))
+
+add-words-2 : tie.Need-add-words-2 Inv-loop μ-loop
+add-words-2 c =
+    omega (arith, row-short _ _ _ _ (c .before .clock-length .ensures) (c .event-length .ensures), c .before .before .before .before .before .before .before .before .before .before .before .loop .inv .small, here (c .before .before .before .before .before .before .before) .0, c .before .before .before .before .before .before .before .before .before .before .before .before .before .good)
+
+add-i : tie.Need-add-i Inv-loop μ-loop
+add-i c = omega (arith, here (c .before .before .before .before .before .before .before) .0, c .before .before .before .before .before .before .before .before .before .before .before .before .before .good)
+
+loop-less : tie.Need-loop-less Inv-loop μ-loop
+loop-less c = omega (arith, here (c .before .before .before .before .before .before .before) .0)
+
+loop-again : tie.Need-loop-again Inv-loop μ-loop
+loop-again c =
+    let at = here (c .before .before .before .before .before .before .before) in
+    counting-next (c .before .before .before .before .before .before .before .before .before .before .before .loop .inv) (at .0) (at .1) (rw (sym (c .before .before .before .before .before .before .is-writable .ensures)) (sym (c .before .before .before .judged2 .given .1) ∙ c .before .before .before .before .before .judge .ensures)) (c .before .clock-length .ensures) (c .event-length .ensures)
+
+pub count-spec : {M : Type 1} → statement M
+count-spec =
+    tie.close
+    (tie.spec
+    Inv-loop
+    μ-loop
+    loop-holds
+    get-requires
+    enum-told
+    returns
+    enum-known-found
+    is-writable-requires
+    judge-requires
+    enum-known-judged
+    returns-2
+    enum-known-judged-2
+    clock-length-requires
+    event-length-requires
+    add-words
+    add-words-2
+    add-i
+    loop-less
+    loop-again)

@@ -1,0 +1,78 @@
+-- The invariant of a loop that writes words, over any format, and what each function that writes some of them has done.
+use mathlib.Core.Path.{_≡_, refl, sym, _∙_, ap, ap₂, subst}
+use Prim.Native.Nat.{ℕ, _+_, _*_, _≤_}
+use native.Mathlib.Omega.{arith}
+use native.Mathlib.Nat.{add-mul}
+use mathlib.Core.Bool.{Bool, true}
+use mathlib.Core.List.{List, [], _∷_, _++_, append-assoc, append-nil}
+use lib.ListN.{length, length-append}
+use lib.Seq.{sets, length-sets}
+use borrow.Author.Tests.{le-leb}
+use Rattle.rows.proofs.Stored.{sets-append}
+use Rattle.words.specs.Words.{bytesOf, bytesOfAll, PutWord}
+use Rattle.words.specs.Writer.{PutWords}
+use Rattle.words.proofs.Bytes.{bytes-length}
+
+-- the bytes of words: how many, and of one list of words after another
+pub all-length : (size : ℕ) (ws : List ℕ) → length (bytesOfAll size ws) ≡ length ws * size
+all-length size [] = omega arith
+all-length size (w ∷ ws) = omega (arith, length-append (bytesOf size w) (bytesOfAll size ws), bytes-length size w, all-length size ws, add-mul 1 (length ws) size)
+
+pub all-append : (size : ℕ) (a b : List ℕ) → bytesOfAll size (a ++ b) ≡ bytesOfAll size a ++ bytesOfAll size b
+all-append size [] b = refl
+all-append size (w ∷ a) b = ap (λ (l : List ℕ). bytesOf size w ++ l) (all-append size a b) ∙ sym (append-assoc (bytesOf size w) (bytesOfAll size a) (bytesOfAll size b))
+
+-- no word
+pub put-none : (size : ℕ) (old : List ℕ) (at : ℕ) → PutWords size [] old at old at
+put-none size old at = record { place = omega arith; wrote = refl }
+
+-- one word, by words::put
+pub put-one : {size w at : ℕ} {old new : List ℕ} {r : Bool} → PutWord old at size w new r → at + size ≤ length old → PutWords size (w ∷ []) old at new (at + size)
+put-one {size} {w} {at} {old} h f =
+    record {
+      place = omega arith;
+      wrote = h .wrote ∙ simp (le-leb _ _ f) (ap (sets old at) (sym (append-nil (bytesOf size w))));
+    }
+
+-- some words after others
+pub put-both : {size : ℕ} {a b : List ℕ} {at mid end : ℕ} {old between new : List ℕ}
+    → PutWords size a old at between mid → PutWords size b between mid new end → PutWords size (a ++ b) old at new end
+put-both {size} {a} {b} {at} {mid} {end} {old} {between} {new} h g =
+    let here : at + length (bytesOfAll size a) ≡ mid = omega (arith, h .place, all-length size a) in
+    record {
+      place = omega (arith, h .place, g .place, ap (λ (n : ℕ). n * size) (length-append a b), add-mul (length a) (length b) size);
+      wrote =
+          g .wrote
+          ∙ ap (λ (l : List ℕ). sets l mid (bytesOfAll size b)) (h .wrote)
+          ∙ ap (λ (k : ℕ). sets (sets old at (bytesOfAll size a)) k (bytesOfAll size b)) (sym here)
+          ∙ sym (sets-append (bytesOfAll size a) (bytesOfAll size b) old at)
+          ∙ ap (sets old at) (sym (all-append size a b));
+    }
+
+pub put-length : {size : ℕ} {ws : List ℕ} {at end : ℕ} {old new : List ℕ} → PutWords size ws old at new end → length new ≡ length old
+put-length {size} {ws} {at} {end} {old} h = ap length (h .wrote) ∙ length-sets old at (bytesOfAll size ws)
+
+-- of all the words `ws`, those before `rest` are in the buffer, and `at` is the place after them
+pub record Writes (size : ℕ) (ws : List ℕ) (old rest : List ℕ) (at : ℕ) (buf : List ℕ) : Type 0 where
+  pub done : List ℕ
+  pub same : ws ≡ done ++ rest
+  pub put : PutWords size done old 0 buf at
+
+pub writes-start : (size : ℕ) (ws old : List ℕ) → Writes size ws old ws 0 old
+writes-start size ws old = record { done = []; same = refl; put = put-none size old 0 }
+
+module _ {size : ℕ} {ws old : List ℕ} where
+  pub writes-length : {rest : List ℕ} {at : ℕ} {buf : List ℕ} → Writes size ws old rest at buf → length buf ≡ length old
+  writes-length h = put-length (h .put)
+
+  -- the next words have room where all have
+  pub writes-fit : (new rest : List ℕ) {at : ℕ} {buf : List ℕ} → Writes size ws old (new ++ rest) at buf → length ws * size ≤ length old → at + length new * size ≤ length buf
+  writes-fit new rest {at} {buf} h f =
+      let all : length ws ≡ length (h .done) + (length new + length rest) = ap length (h .same) ∙ length-append (h .done) (new ++ rest) ∙ ap (λ (n : ℕ). length (h .done) + n) (length-append new rest) in
+      omega (arith, f, writes-length h, h .put .place, ap (λ (n : ℕ). n * size) all, add-mul (length (h .done)) (length new + length rest) size, add-mul (length new) (length rest) size)
+
+  pub writes-more : (new : List ℕ) {rest : List ℕ} {at at′ : ℕ} {buf buf′ : List ℕ} → Writes size ws old (new ++ rest) at buf → PutWords size new buf at buf′ at′ → Writes size ws old rest at′ buf′
+  writes-more new {rest} h p = record { done = h .done ++ new; same = h .same ∙ sym (append-assoc (h .done) new rest); put = put-both (h .put) p }
+
+  pub writes-done : {at : ℕ} {buf : List ℕ} → Writes size ws old [] at buf → buf ≡ sets old 0 (bytesOfAll size ws)
+  writes-done h = h .put .wrote ∙ ap (λ (l : List ℕ). sets old 0 (bytesOfAll size l)) (sym (append-nil (h .done)) ∙ sym (h .same))

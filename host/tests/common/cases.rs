@@ -1,0 +1,49 @@
+//! What the named cases of all readers of words share: words with the rows that they are to give, which each reader has to give.
+use fryskelom::samples::Picture;
+use fryskelom::second::words::Reading;
+use fryskelom::{Fault, Refusal};
+
+pub struct Case<W: 'static> {
+    pub name: &'static str,
+    /// Words that give no row and are not refused.
+    pub before: &'static [W],
+    pub words: &'static [W],
+    /// A part of a word after them.
+    pub part: &'static [u8],
+    pub picture: Picture,
+    pub room: usize,
+    pub rows: &'static [[u32; 10]],
+    /// The refusal and its place.
+    pub fault: Option<(u64, usize)>,
+}
+
+impl<W> Case<W> {
+    /// What a case is where it says nothing else: the largest picture, room for more rows than there are, no refusal.
+    pub const PLAIN: Case<W> = Case { name: "", before: &[], words: &[], part: &[], picture: (2_048, 2_048), room: 16, rows: &[], fault: None };
+}
+
+/// Reads the cases, each into a buffer of sevens that is a few numbers longer than its room, and looks at all of it afterwards.
+pub fn check<W: Copy>(cases: &[Case<W>], bytes_of: fn(&[W]) -> Vec<u8>, reader: impl Fn(&[u8], u32, u32, &mut [u32]) -> Result<usize, Fault>) {
+    for case in cases {
+        let bytes = [bytes_of(&[case.before, case.words].concat()), case.part.to_vec()].concat();
+        let mut rows = vec![7; 10 * case.room + 9];
+        let mut expected = rows.clone();
+        expected[..10 * case.rows.len()].copy_from_slice(case.rows.as_flattened());
+        let answer = reader(&bytes, case.picture.0, case.picture.1, &mut rows);
+        let fault = |(refusal, place)| Fault { refusal: Refusal(refusal), rows: case.rows.len(), place };
+        assert_eq!(answer, case.fault.map(fault).map_or(Ok(case.rows.len()), Err), "{}", case.name);
+        assert_eq!(rows, expected, "{}", case.name);
+    }
+}
+
+/// The second implementation as a reader into a buffer.
+pub fn into_buffer(second: fn(&[u8], u32, u32, usize) -> Reading) -> impl Fn(&[u8], u32, u32, &mut [u32]) -> Result<usize, Fault> {
+    move |bytes, width, height, buffer| {
+        let Reading { refusal, rows, place, .. } = second(bytes, width, height, buffer.len() / 10);
+        buffer[..10 * rows.len()].copy_from_slice(rows.as_flattened());
+        match refusal {
+            0 => Ok(rows.len()),
+            _ => Err(Fault { refusal: Refusal(refusal), rows: rows.len(), place }),
+        }
+    }
+}

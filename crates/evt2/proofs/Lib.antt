@@ -1,3 +1,7 @@
 -- Lemmas, and the laws proved (Kept).
-pub mod Steps
+pub mod GoodRead
+pub mod Kept
+pub mod ReadBack
 pub mod Spelled
+pub mod SpelledSteps
+pub mod Steps

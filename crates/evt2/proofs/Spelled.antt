@@ -20,10 +20,11 @@ use Rattle.rows.specs.Row.{timeOf, roomOf, rowFrom, rowsFrom, rowsOf}
 use Rattle.rows.specs.Rules.{kindOf, judgedOf, accepted, refused, verdictFrom}
 use Rattle.rows.proofs.Judged.{Judging, judging-start, judging-done, judging-next, judging-refused, judged-is-time}
 use Rattle.rows.proofs.rules.Kind.{the-type}
+use Rattle.words.specs.Fields.{typed}
 use Rattle.words.specs.Words.{bytesOfAll}
 use Rattle.words.specs.Writer.{writingOf, PutWords}
 use Rattle.words.proofs.Writes.{Writes, writes-start, writes-length, writes-fit, writes-more, writes-done}
-use Rattle.evt2.specs.Spelling.{writable, writableAs, typed, eventAs, eventWords, clockWords, wordsFrom}
+use Rattle.evt2.specs.Spelling.{writable, writableAs, eventAs, eventWords, clockWords, wordsFrom}
 
 -- the kinds that have no words, by their places in the enum
 abbrev wordless : List ℕ
@@ -72,7 +73,7 @@ row-short told old high r p q = omega (arith, clock-short told old high, event-s
 
 -- the words of a high part that is told anew, and how many an event of a kind has
 module _ (told : Bool) (old high : ℕ) where
-  pub clock-new : told && eqb old high ≡ false → clockWords told old high ≡ typed 8 high ∷ []
+  pub clock-new : told && eqb old high ≡ false → clockWords told old high ≡ typed 28 8 high ∷ []
   unfolding clockWords
   clock-new e = rw e
 

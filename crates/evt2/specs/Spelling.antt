@@ -8,6 +8,7 @@ use Rattle.rows.specs.declared.rules.Kind.{Kind}
 use Rattle.rows.specs.declared.rules.Kind.the-variants.{Pixel, Trigger, ImuCounts, ImuSingles, UsbPacket, Special, Other}
 use Rattle.rows.specs.Row.{timeOf}
 use Rattle.rows.specs.Rules.{kindOf}
+use Rattle.words.specs.Fields.{typed}
 use Rattle.words.specs.Writer.{Spelling}
 
 -- the good rows that EVT2 has words for: kinds 1, 2 and 3, x and y below 2,048
@@ -23,20 +24,16 @@ writableAs Other r = false
 unfoldable pub writable : Row → Bool
 writable r = writableAs (kindOf (r .kind)) r
 
--- a word of a type, 31..28, with what lies below
-abbrev pub typed : ℕ → ℕ → ℕ
-typed top below = top * 268435456 + below
-
--- below the type, an event's low time in 27..22, and what lies below that
+-- below the type, which stands in 31..28, an event's low time in 27..22, and what lies below that
 abbrev pub lowTimed : Row → ℕ → ℕ
 lowTimed r below = timeOf r % 64 * 4194304 + below
 
 -- the words of an event; unused bits are 0. A pixel's type is its polarity, and CONTINUED repeat the low time
 unfoldable pub eventAs : Kind → Row → List ℕ
-eventAs Pixel r = typed (r .c) (lowTimed r (r .a * 2048 + r .b)) ∷ []
-eventAs Trigger r = typed 10 (lowTimed r (r .a * 256 + r .b)) ∷ []
+eventAs Pixel r = typed 28 (r .c) (lowTimed r (r .a * 2048 + r .b)) ∷ []
+eventAs Trigger r = typed 28 10 (lowTimed r (r .a * 256 + r .b)) ∷ []
 eventAs ImuCounts r =
-    typed 13 (lowTimed r (r .a * 2)) ∷ typed 15 (lowTimed r (r .b * 2)) ∷ typed 15 (lowTimed r (r .c * 2)) ∷ typed 15 (lowTimed r (r .d * 2)) ∷ typed 15 (lowTimed r (r .e * 2)) ∷ typed 15 (lowTimed r (r .f * 2)) ∷ []
+    typed 28 13 (lowTimed r (r .a * 2)) ∷ typed 28 15 (lowTimed r (r .b * 2)) ∷ typed 28 15 (lowTimed r (r .c * 2)) ∷ typed 28 15 (lowTimed r (r .d * 2)) ∷ typed 28 15 (lowTimed r (r .e * 2)) ∷ typed 28 15 (lowTimed r (r .f * 2)) ∷ []
 eventAs ImuSingles r = []
 eventAs UsbPacket r = []
 eventAs Special r = []
@@ -47,7 +44,7 @@ eventWords r = eventAs (kindOf (r .kind)) r
 
 -- EVT_TIME_HIGH, unless a high part was told before and this is the same
 unfoldable pub clockWords : Bool → ℕ → ℕ → List ℕ
-clockWords told old high = cond (told && eqb old high) [] (typed 8 high ∷ [])
+clockWords told old high = cond (told && eqb old high) [] (typed 28 8 high ∷ [])
 
 -- rows one after the other, each with the high part of its time
 unfoldable pub wordsFrom : Bool → ℕ → List Row → List ℕ

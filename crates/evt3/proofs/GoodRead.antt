@@ -1,17 +1,17 @@
 -- Every row that a word gives is good, and the state stays within its limits.
-use mathlib.Core.Path.{_≡_, refl, subst}
+use mathlib.Core.Path.{_≡_, refl}
 use Prim.Native.Nat.{ℕ, zero, suc, _+_, _*_, _/_, _%_, _≤_, _<_}
 use native.Mathlib.Omega.{arith}
 use mathlib.Core.Bool.{Bool, true, false, cond, _&&_}
 use mathlib.Core.List.{List, [], _∷_, _++_}
 use lib.Dec.{lit<, leb, ltb, eqb}
 use borrow.Author.Tests.{leb-false, ltb-true}
-use Rattle.rows.specs.declared.fault.Fault.{Fault}
 use Rattle.rows.specs.Rules.{AllGood}
 use Rattle.rows.proofs.GoodRows.{pixel-good, trigger-good}
 use Rattle.words.specs.declared.picture.Picture.{Picture}
 use Rattle.words.specs.Fields.{field}
-use Rattle.words.specs.Machine.{Outcome, next, fault, Given, gives, refuses, refusedIf, onto, Keeps}
+use Rattle.words.specs.Machine.{gives, Keeps}
+use Rattle.words.proofs.RowsGiven.{Good, if-good, Fine, onto-fine, refused-fine, fine-keeps}
 use Rattle.evt3.specs.declared.kind.Kind.{Kind}
 use Rattle.evt3.specs.declared.kind.Kind.the-variants.{AddrY, AddrX, VectBaseX, Vect12, Vect8, TimeLow, Continued4, TimeHigh, ExtTrigger, Others, Continued12, Reserved}
 use Rattle.evt3.specs.declared.state.State.{State}
@@ -30,27 +30,6 @@ pub record Limits (s : State) : Type 0 where
 
 pub fresh-limits : Limits fresh
 fresh-limits = record { high = lit< tt; wraps = lit< tt; time = lit< tt; y = lit< tt; base = omega arith; polarity = lit< tt }
-
--- what is to be shown of a word, and of what it gives
-abbrev Fine : Outcome State → Type 0
-Fine (next s new) = Limits s × AllGood new
-Fine (fault f) = Unit {0}
-
-abbrev Good : Given → Type 0
-Good (gives new) = AllGood new
-Good (refuses f) = Unit {0}
-
-onto-fine : (g : Given) {s : State} → Limits s → Good g → Fine (onto g s)
-onto-fine (gives new) h k = (h, k)
-onto-fine (refuses f) h k = tt
-
-refused-fine : (f : Fault) (s : State) (t : Bool) → (t ≡ false → Limits s) → Fine (onto (refusedIf t f) s)
-refused-fine f s true h = tt
-refused-fine f s false h = (h refl, tt)
-
-if-good : (a b : Given) (t : Bool) → Good a → Good b → Good (cond t a b)
-if-good a b true f g = f
-if-good a b false f g = g
 
 -- every one of some columns is below a limit
 abbrev Under : ℕ → List ℕ → Type 0
@@ -117,17 +96,17 @@ module _ (s : State) (h : Limits s) where
       go false = h
 
   -- each kind of word
-  kind-fine : (k : Kind) (picture : Picture) (w : ℕ) → Fine (stepAs k picture s w)
+  kind-fine : (k : Kind) (picture : Picture) (w : ℕ) → Fine Limits (stepAs k picture s w)
   kind-fine AddrY picture w =
-      refused-fine _ _ (eqb (field 11 1 w) 1)
+      refused-fine Limits _ _ (eqb (field 11 1 w) 1)
       (λ e. record { high = h .high; wraps = h .wraps; time = h .time; y = omega arith; base = h .base; polarity = h .polarity })
-  kind-fine AddrX picture w = onto-fine (pixelOf picture s w) h (pixel-of-good picture w)
+  kind-fine AddrX picture w = onto-fine Limits (pixelOf picture s w) _ h (pixel-of-good picture w)
   kind-fine VectBaseX picture w = (record { high = h .high; wraps = h .wraps; time = h .time; y = h .y; base = omega arith; polarity = omega arith }, tt)
-  kind-fine Vect12 picture w = onto-fine (vectorOf picture s (field 0 12 w)) (moved-limits 12) (vector-good picture (field 0 12 w))
-  kind-fine Vect8 picture w = onto-fine (vectorOf picture s (field 0 8 w)) (moved-limits 8) (vector-good picture (field 0 8 w))
+  kind-fine Vect12 picture w = onto-fine Limits (vectorOf picture s (field 0 12 w)) _ (moved-limits 12) (vector-good picture (field 0 12 w))
+  kind-fine Vect8 picture w = onto-fine Limits (vectorOf picture s (field 0 8 w)) _ (moved-limits 8) (vector-good picture (field 0 8 w))
   kind-fine TimeLow picture w = (with-low-limits (field 0 12 w) (omega arith), tt)
   kind-fine TimeHigh picture w =
-      refused-fine _ _ (leb 1024 (wrapsAt s (field 0 12 w)))
+      refused-fine Limits _ _ (leb 1024 (wrapsAt s (field 0 12 w)))
       (λ e.
       record {
         high = omega arith;
@@ -137,7 +116,7 @@ module _ (s : State) (h : Limits s) where
         base = h .base;
         polarity = h .polarity;
       })
-  kind-fine ExtTrigger picture w = onto-fine (triggerOf s w) h (trigger-of-good w)
+  kind-fine ExtTrigger picture w = onto-fine Limits (triggerOf s w) _ h (trigger-of-good w)
   kind-fine Continued4 picture w = (h, tt)
   kind-fine Others picture w = (h, tt)
   kind-fine Continued12 picture w = (h, tt)
@@ -145,4 +124,4 @@ module _ (s : State) (h : Limits s) where
 
 pub machine-keeps : (p : Picture) → Keeps (machine p) Limits
 unfolding step
-machine-keeps p = record { step = λ s place w s′ new h e. subst Fine e (kind-fine s h (kindOf w) p w) }
+machine-keeps p = fine-keeps Limits (machine p) (λ s place w h. kind-fine s h (kindOf w) p w)

@@ -5,14 +5,15 @@ use native.Mathlib.Numerals.{add-one}
 use native.Mathlib.Omega.{arith}
 use mathlib.Core.Bool.{Bool, true, false, cond, _&&_}
 use mathlib.Core.List.{List, [], _∷_}
+use lib.ListN.{length}
 use lib.Dec.{ltb}
 use borrow.Author.Tests.{lt-ltb, le-ltb, ltb-false}
 use Rattle.rows.specs.declared.fault.Fault.{Fault}
-use Rattle.rows.specs.declared.fault.Fault.the-variants.{BadTime, BadRow}
+use Rattle.rows.specs.declared.fault.Fault.the-variants.{BadTime, BadRow, BadList}
 use Rattle.rows.specs.declared.row.Row.{Row}
 use Rattle.rows.specs.declared.rules.Judged.the-variants.{Time, Refused}
 use Rattle.rows.specs.Row.{timeOf, roomOf, rowFrom, rowsFrom, rowsOf}
-use Rattle.rows.specs.Rules.{goodRow, judgedOf, accepted, refused, verdictThen, verdictFrom, Writable}
+use Rattle.rows.specs.Rules.{goodRow, judgedOf, accepted, refused, verdictThen, verdictFrom, goodLength, verdictOf, Writable}
 
 -- a good row that the format can write is judged by its time t
 module _ (r : Row) {writable : Bool} {t : ℕ} (last : ℕ) (g : goodRow r ≡ true) (w : writable ≡ true) (e : t ≡ timeOf r) where
@@ -56,6 +57,16 @@ module _ (writable : Row → Bool) where
   writable-accepted [] i last h = refl
   writable-accepted (r ∷ rs) i last h =
       simp (h .0, h .1, le-ltb (timeOf r) last (h .2)) (writable-accepted rs (suc i) (timeOf r) (h .3))
+
+  -- a whole list: 13 passed, and then every row
+  pub accepted-list : (l : List ℕ) → verdictOf writable l ≡ accepted → (goodLength (length l) ≡ true) × Writable writable 0 (rowsOf l)
+  unfolding verdictOf
+  accepted-list l h = go (goodLength (length l)) refl h
+    where
+      go : (t : Bool) → goodLength (length l) ≡ t → cond t (verdictFrom writable (rowsOf l) 0 0) (refused BadList 0) ≡ accepted
+          → (goodLength (length l) ≡ true) × Writable writable 0 (rowsOf l)
+      go true e f = (e, accepted-writable (rowsOf l) 0 0 f)
+      go false e f = no-refusal f
 
   -- the invariant of a loop that judges row after row of l: i rows passed, the last at the time `last`
   pub record Judging (l : List ℕ) (i last : ℕ) : Type 0 where

@@ -11,7 +11,7 @@ use lib.Seq.{drop-cons, drop-drop, take-add, take-all, getD-append-add}
 use borrow.Author.Tests.{ltb-true, ltb-false}
 use Rattle.rows.specs.declared.row.Row.{Row}
 use Rattle.rows.specs.declared.row.RowAt.the-variants.{Found, Nothing}
-use Rattle.rows.specs.Row.{numbers, flat, roomOf, rowFrom, rowAt, rowsFrom, rowsOf}
+use Rattle.rows.specs.Row.{numbers, flat, Narrow, roomOf, rowFrom, rowAt, rowsFrom, rowsOf}
 use Rattle.rows.proofs.Stored.{flat-length}
 
 -- the k numbers from a place on, one by one
@@ -83,6 +83,29 @@ unfolding rowsOf
 rows-of-flat rs =
     let n : length (flat rs) / 10 ≡ length rs = omega (arith, flat-length rs) in
     ap (rowsFrom (flat rs) 0) n ∙ rows-flat rs
+
+-- a list has as many rows as it has room for, and in a slice the lower half of each time has 32 bits
+rows-length : (l : List ℕ) (n i : ℕ) → length (rowsFrom l i n) ≡ n
+unfolding rowsFrom
+rows-length l zero i = refl
+rows-length l (suc n) i = ap suc (rows-length l n (suc i))
+
+pub rows-of-length : (l : List ℕ) → length (rowsOf l) ≡ roomOf l
+unfolding rowsOf
+rows-of-length l = rows-length l (roomOf l) 0
+
+abbrev pub AllNarrow : List Row → Type 0
+AllNarrow [] = Unit {0}
+AllNarrow (r ∷ rs) = (r .low < 4294967296) × AllNarrow rs
+
+narrow-rows : (l : List ℕ) → Narrow l → (n i : ℕ) → AllNarrow (rowsFrom l i n)
+unfolding rowsFrom rowFrom
+narrow-rows l h zero i = tt
+narrow-rows l h (suc n) i = (h (i * 10 + 1), narrow-rows l h n (suc i))
+
+pub all-narrow : (l : List ℕ) → Narrow l → AllNarrow (rowsOf l)
+unfolding rowsOf
+all-narrow l h = narrow-rows l h (roomOf l) 0
 
 -- what `rows::get` found of a list
 module _ (l : List ℕ) (i : ℕ) where

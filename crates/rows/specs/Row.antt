@@ -1,6 +1,6 @@
 -- Rows: ten numbers each, one after the other in a list of numbers. 01, "Rows".
 use mathlib.Core.Path.{_≡_}
-use Prim.Native.Nat.{ℕ, zero, suc, _+_, _*_, _/_, _%_}
+use Prim.Native.Nat.{ℕ, zero, suc, _+_, _*_, _/_, _%_, _<_}
 use mathlib.Core.Bool.{Bool, cond}
 use mathlib.Core.List.{List, [], _∷_, _++_}
 use lib.ListN.{length, drop, getD}
@@ -58,6 +58,10 @@ rowsFrom l i (suc n) = rowFrom l (i * 10) ∷ rowsFrom l (suc i) n
 
 unfoldable pub rowsOf : List ℕ → List Row
 rowsOf l = rowsFrom l 0 (roomOf l)
+
+-- numbers of 32 bits, as every slice of them holds
+abbrev pub Narrow : List ℕ → Type 0
+Narrow l = (i : ℕ) → getD l i 0 < 4294967296
 
 -- `row` was stored as row i where there is room for it, and else nothing was touched
 pub record PutRow (old : List ℕ) (i : ℕ) (row : Row) (new : List ℕ) (r : Bool) : Type 0 where

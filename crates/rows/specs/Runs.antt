@@ -68,6 +68,12 @@ pub record ReadNumbers {S : Type 0} (run : Run S) (old new : List ℕ) (r : Read
   pub answer : r ≡ readingNumbers (answerOf (run .ending) (length (run .rows)))
   pub wrote : new ≡ over (flat (run .rows)) old
 
+-- a run that gives just these rows, and finishes
+pub record Finishes {S : Type 0} (run : Run S) (rs : List Row) : Type 0 where
+  pub state : S
+  pub rows : run .rows ≡ rs
+  pub ending : run .ending ≡ finished state
+
 -- the promise of a function that reads a part: n₀ rows were in `old` before, n are in `new`, and the run ended so
 pub record Did {S : Type 0} (run : Run S) (old : List ℕ) (n₀ : ℕ) (e : Ending S) (n : ℕ) (new : List ℕ) : Type 0 where
   pub ending : run .ending ≡ e

@@ -2,12 +2,13 @@
 use mathlib.Core.Path.{_∙_, ap}
 use Rattle.words.specs.Words.{Words, wordsOf}
 use Rattle.words.specs.Machine.{run}
-use Rattle.words.specs.Promises.{FieldSmall, FieldPlaced, FieldParts, WordsBack, RunTwoParts, RowsFit, RowsGood}
+use Rattle.words.specs.Promises.{FieldSmall, FieldPlaced, FieldParts, TypeFound, TypeBelow, RoomRefused, WordsBack, RunTwoParts, RowsFit, RowsGood}
 use Rattle.words.proofs.BitFields as fields
 use Rattle.words.proofs.Bytes as bytes
 use Rattle.words.proofs.Cut.{words-join}
 use Rattle.words.proofs.RowsGiven.{reading-fits, reading-good}
 use Rattle.words.proofs.TwoParts.{run-join}
+use Rattle.words.proofs.Writings.{room-exact}
 
 pub field-small : FieldSmall
 field-small = fields.field-small
@@ -17,6 +18,15 @@ field-placed = fields.field-placed
 
 pub field-parts : FieldParts
 field-parts = fields.field-parts
+
+pub type-found : TypeFound
+type-found = fields.type-found
+
+pub type-below : TypeBelow
+type-below = fields.type-below
+
+pub room-refused : RoomRefused
+room-refused s l bytes e = room-exact s l bytes e
 
 pub words-back : WordsBack
 words-back = bytes.words-back

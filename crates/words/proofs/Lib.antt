@@ -5,6 +5,7 @@ pub mod BitFields
 pub mod Bytes
 pub mod Cut
 pub mod Kept
+pub mod ReadBack
 pub mod RowsGiven
 pub mod TwoParts
 pub mod Writes

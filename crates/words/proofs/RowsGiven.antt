@@ -1,5 +1,5 @@
--- The rows that a machine gives: they fit the room, and are good where every word's are.
-use mathlib.Core.Path.{_≡_, refl}
+-- The rows that a machine gives: they fit the room, and are good where every word's are; how that is shown of a machine.
+use mathlib.Core.Path.{_≡_, refl, subst}
 use Prim.Native.Nat.{ℕ, _+_, _-_, _≤_}
 use native.Mathlib.Omega.{arith}
 use mathlib.Core.Bool.{Bool, true, false, cond}
@@ -7,13 +7,14 @@ use mathlib.Core.List.{List, []}
 use lib.ListN.{length, length-append}
 use lib.Dec.{leb}
 use borrow.Author.Tests.{leb-true}
+use Rattle.rows.specs.declared.fault.Fault.{Fault}
 use Rattle.rows.specs.declared.fault.Fault.the-variants.{NoRoom}
 use Rattle.rows.specs.declared.row.Row.{Row}
 use Rattle.rows.specs.Rules.{AllGood}
 use Rattle.rows.specs.Runs.{Ending, finished, refused, Run, prepend, stopped, resume}
 use Rattle.rows.proofs.GoodRows.{all-good-append}
 use Rattle.words.specs.Words.{Words, word, whole, part}
-use Rattle.words.specs.Machine.{Outcome, next, fault, Machine, Reached, after, run, closed, reading, Keeps}
+use Rattle.words.specs.Machine.{Outcome, next, fault, Given, gives, refuses, refusedIf, onto, Machine, Reached, after, run, closed, reading, Keeps}
 
 module _ {S : Type 0} (m : Machine S) where
   -- the rows of a run fit its room
@@ -67,3 +68,28 @@ module _ {S : Type 0} (m : Machine S) where
         go : (e : Ending (Reached S)) → AllGood (resume (run m ws s place room .rows) e room (closed m) .rows)
         go (finished r) = all-good-append (run m ws s place room .rows) [] (run-good ws s place room h) tt
         go (refused f place′) = run-good ws s place room h
+
+-- how a machine is shown to give good rows: of what a word gives, and of what it does
+abbrev pub Good : Given → Type 0
+Good (gives new) = AllGood new
+Good (refuses f) = Unit {0}
+
+pub if-good : (a b : Given) (t : Bool) → Good a → Good b → Good (cond t a b)
+if-good a b true f g = f
+if-good a b false f g = g
+
+module _ {S : Type 0} (Kept : S → Type 0) where
+  abbrev pub Fine : Outcome S → Type 0
+  Fine (next s new) = Kept s × AllGood new
+  Fine (fault f) = Unit {0}
+
+  pub onto-fine : (g : Given) (s : S) → Kept s → Good g → Fine (onto g s)
+  onto-fine (gives new) s h k = (h, k)
+  onto-fine (refuses f) s h k = tt
+
+  pub refused-fine : (f : Fault) (s : S) (t : Bool) → (t ≡ false → Kept s) → Fine (onto (refusedIf t f) s)
+  refused-fine f s true h = tt
+  refused-fine f s false h = (h refl, tt)
+
+  pub fine-keeps : (m : Machine S) → ((s : S) (place w : ℕ) → Kept s → Fine (m .step s place w)) → Keeps m Kept
+  fine-keeps m h = record { step = λ s place w s′ new k e. subst Fine e (h s place w k) }

@@ -2,12 +2,12 @@
 use mathlib.Core.Path.{_≡_, refl, sym, _∙_, ap}
 use Prim.Native.Nat.{ℕ, _*_, _≤_, _<_}
 use native.Mathlib.Omega.{arith}
-use mathlib.Core.Bool.{true, false, cond}
+use mathlib.Core.Bool.{Bool, true, false, cond}
 use mathlib.Core.List.{List}
 use lib.ListN.{length}
 use lib.Seq.{sets}
 use lib.Dec.{leb}
-use borrow.Author.Tests.{le-leb, lt-leb}
+use borrow.Author.Tests.{le-leb, lt-leb, leb-false}
 use Rattle.rows.specs.declared.fault.Fault.{Fault}
 use Rattle.rows.specs.declared.fault.Fault.the-variants.{NoRoom, BadList}
 use Rattle.rows.specs.declared.fault.Writing.{Writing}
@@ -19,6 +19,7 @@ use Rattle.rows.specs.Rules.{Verdict, accepted, refused, verdictFrom, goodLengt
 use Rattle.rows.proofs.Stored.{sets-over}
 use Rattle.words.specs.Words.{bytesOfAll}
 use Rattle.words.specs.Writer.{Spelling, spelled, thenJudged, roomFor, writingVerdict, writingOf, WroteAs, WroteNumbers}
+use Rattle.words.specs.Promises.{RoomExact}
 use Rattle.words.proofs.Writes.{all-length}
 
 -- what an answer of `writingOf` says of the verdict
@@ -65,6 +66,20 @@ module _ (s : Spelling) (l old : List ℕ) where
     unfolding writingVerdict verdictOf
     wrote-all {n} e f g =
         rw (word-count e) (as-accepted (rw (good, same-written (verdictFrom (s .writable) (rowsOf l) 0 0) (sym e ∙ is) .0, sym (word-count e), le-leb _ _ f)) (rw (sym (word-count e)) f) g)
+
+-- a list that passes 13, 12 and 5 is refused where the buffer is shorter than its words, and there alone
+pub room-exact : (s : Spelling) (l : List ℕ) (bytes : ℕ) → verdictOf (s .writable) l ≡ accepted → RoomExact s l bytes
+unfolding writingVerdict
+room-exact s l bytes e =
+    record {
+      short = λ h. rw (e, lt-leb _ _ h);
+      only = λ h. only (leb (length (spelled s l) * s .size) bytes) refl (sym (rw e) ∙ h);
+      long = λ h. rw (e, le-leb _ _ h);
+    }
+  where
+    only : (t : Bool) → leb (length (spelled s l) * s .size) bytes ≡ t → cond t accepted (refused NoRoom 0) ≡ refused NoRoom 0 → bytes < length (spelled s l) * s .size
+    only true f g = let z : _≡_ {A = ℕ} 0 1 = cc in absurd (omega arith)
+    only false f g = leb-false _ _ f
 
 -- the same answer as numbers
 pub writes-numbers : {s : Spelling} {l old new : List ℕ} {r : Writing} {n : WritingNumbers} → WroteAs s l old new r → n ≡ writingNumbers r → WroteNumbers s l old new n

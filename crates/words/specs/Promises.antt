@@ -3,11 +3,13 @@ use mathlib.Core.Path.{_≡_}
 use Prim.Native.Nat.{ℕ, _+_, _*_, _/_, _^_, _≤_, _<_}
 use mathlib.Core.List.{List, [], _∷_, _++_}
 use lib.ListN.{length}
-use Rattle.rows.specs.Rules.{AllGood}
+use Rattle.rows.specs.declared.fault.Fault.the-variants.{NoRoom}
+use Rattle.rows.specs.Rules.{AllGood, accepted, refused, verdictOf}
 use Rattle.rows.specs.Runs.{andThen}
 use Rattle.words.specs.Words.{Words, word, wordsOf, bytesOfAll}
-use Rattle.words.specs.Fields.{field, placed}
+use Rattle.words.specs.Fields.{field, typed, placed}
 use Rattle.words.specs.Machine.{Machine, run, reading, Keeps}
+use Rattle.words.specs.Writer.{Spelling, spelled, writingVerdict}
 
 -- a field is below 2^width
 abbrev pub FieldSmall : Type 0
@@ -21,6 +23,13 @@ FieldPlaced = (at width high mid low : ℕ) → mid < 2 ^ width → low < 2 ^ at
 abbrev pub FieldParts : Type 0
 FieldParts = (at width w : ℕ) → placed at width (w / 2 ^ (at + width)) (field at width w) (field 0 at w) ≡ w
 
+-- a word's type is found again, and below it what lies there, in words of every width
+abbrev pub TypeFound : Type 0
+TypeFound = (at width top below : ℕ) → top < 2 ^ width → below < 2 ^ at → field at width (typed at top below) ≡ top
+
+abbrev pub TypeBelow : Type 0
+TypeBelow = (at top below i width : ℕ) → i + width ≤ at → field i width (typed at top below) ≡ field i width below
+
 -- all of 01's words are low byte first: words that were written are read again, before whatever follows them
 abbrev pub Small : ℕ → List ℕ → Type 0
 Small size [] = Unit {0}
@@ -32,6 +41,15 @@ before (w ∷ ws) r = word w (before ws r)
 
 abbrev pub WordsBack : Type 0
 WordsBack = (size : ℕ) → 0 < size → (ws rest : List ℕ) → Small size ws → wordsOf size (bytesOfAll size ws ++ rest) ≡ before ws (wordsOf size rest)
+
+-- 01, "Refusal numbers" and "Spelling": of a list that passes 13, 12 and 5 room is refused exactly where the buffer is shorter than the spelling
+pub record RoomExact (s : Spelling) (l : List ℕ) (bytes : ℕ) : Type 0 where
+  pub short : bytes < length (spelled s l) * s .size → writingVerdict s l bytes ≡ refused NoRoom 0
+  pub only : writingVerdict s l bytes ≡ refused NoRoom 0 → bytes < length (spelled s l) * s .size
+  pub long : length (spelled s l) * s .size ≤ bytes → writingVerdict s l bytes ≡ accepted
+
+abbrev pub RoomRefused : Type 0
+RoomRefused = (s : Spelling) (l : List ℕ) (bytes : ℕ) → verdictOf (s .writable) l ≡ accepted → RoomExact s l bytes
 
 -- a run in two parts, the first of whole words, is one run after the other, for every machine
 abbrev pub RunTwoParts : Type 1

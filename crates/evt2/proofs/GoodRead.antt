@@ -3,16 +3,12 @@ use mathlib.Core.Path.{_≡_, refl}
 use Prim.Native.Nat.{ℕ, _<_}
 use native.Mathlib.Omega.{arith}
 use mathlib.Core.Bool.{Bool, true, false, cond}
-use mathlib.Core.List.{[], _∷_}
 use lib.Dec.{eqb, lit<}
-use Rattle.rows.specs.declared.fault.Fault.the-variants as refusal
-use Rattle.rows.specs.declared.row.Row.{Row}
-use Rattle.rows.specs.Row.{pixelRow}
 use Rattle.rows.specs.Rules.{goodRow}
 use Rattle.rows.proofs.GoodRows.{pixel-good, trigger-good, counts-good, packet-good}
 use Rattle.words.specs.declared.picture.Picture.{Picture}
 use Rattle.words.specs.Fields.{field}
-use Rattle.words.specs.Machine.{gives, refuses, onto, Keeps}
+use Rattle.words.specs.Machine.{gives, onto, Keeps}
 use Rattle.words.specs.Picture.{inPicture}
 use Rattle.words.proofs.Kept.{field-small}
 use Rattle.words.proofs.RowsGiven.{Good, if-good, Fine, onto-fine, refused-fine, fine-keeps}
@@ -22,6 +18,7 @@ use Rattle.evt2.specs.declared.state.State.{State}
 use Rattle.evt2.specs.State.{fresh, begun}
 use Rattle.evt2.specs.Words.{kindIn, timeAt, pixelOf, goesBack, triggerOf, imuBegun, packetBegun, countOf, countsOf, packetOf, groupRow, insideOf, givenAs, nextAs, step}
 use Rattle.evt2.specs.Reader.{machine}
+use Rattle.rows.specs.declared.fault.Fault.the-variants as refusal
 
 -- the limit of a state: a high part has 28 bits
 pub record Limits (s : State) : Type 0 where

@@ -1,17 +1,15 @@
 -- Each law of specs/Promises.antt, proved.
-use mathlib.Core.Path.{_≡_, refl, sym, _∙_, ap, subst}
-use Prim.Native.Nat.{ℕ, zero, suc, _+_, _*_, _/_, _%_, _≤_}
+use mathlib.Core.Path.{_≡_, refl, sym, ap, subst}
+use Prim.Native.Nat.{ℕ, _/_, _%_, _≤_}
 use native.Mathlib.Omega.{arith}
-use mathlib.Core.Bool.{Bool, true, false, cond}
-use mathlib.Core.List.{List, [], _∷_}
+use mathlib.Core.Bool.{true, false}
 use lib.ListN.{length}
-use lib.Dec.{ltb, leb, eqb, lit<}
-use borrow.Author.Tests.{le-ltb, leb-true, eqb-true}
-use Rattle.rows.specs.declared.row.Row.{Row}
-use Rattle.rows.specs.Row.{Narrow, roomOf, rowFrom, rowsFrom, rowsOf}
-use Rattle.rows.specs.Rules.{AllGood, Verdict, accepted, refused, verdictFrom, goodLength, verdictOf, Writable}
+use lib.Dec.{ltb, eqb, lit<}
+use borrow.Author.Tests.{le-ltb, leb-true}
+use Rattle.rows.specs.Row.{roomOf, rowsOf}
+use Rattle.rows.specs.Rules.{AllGood, goodLength, Writable}
 use Rattle.rows.specs.Runs.{Run, Finishes}
-use Rattle.rows.proofs.GoodRows.{and-first, and-second}
+use Rattle.rows.proofs.GoodRows.{and-second}
 use Rattle.rows.proofs.Judged.{accepted-list}
 use Rattle.rows.proofs.Lists.{rows-of-length, all-narrow}
 use Rattle.words.specs.declared.picture.Admission.{Admission}
@@ -19,7 +17,7 @@ use Rattle.words.specs.declared.picture.Admission.the-variants.{Admitted, Refus
 use Rattle.words.specs.Machine.{Reached, reading, readFrom}
 use Rattle.words.specs.Words.{Words, whole, wordsOf, bytesOfAll}
 use Rattle.words.specs.Promises.{before}
-use Rattle.words.specs.Picture.{pictureOf, admissionOf, admitted}
+use Rattle.words.specs.Picture.{admissionOf, admitted}
 use Rattle.words.specs.Writer.{spelled}
 use Rattle.words.proofs.Kept.{rows-good}
 use Rattle.words.proofs.ReadBack.{leads-finishes, words-of-bytes}

@@ -2,6 +2,7 @@
 pub mod GoodRead
 pub mod Kept
 pub mod ReadBack
+pub mod Returned
 pub mod Spelled
 pub mod SpelledSteps
 pub mod Steps

@@ -1,7 +1,7 @@
 -- The words of writable rows are read back as those rows.
 use mathlib.Core.Path.{_≡_, refl, sym, _∙_, ap, subst}
 use mathlib.Core.Logic.{_⊎_, inl, inr, ⊎-elim}
-use Prim.Native.Nat.{ℕ, _+_, _*_, _/_, _%_, _≤_, _<_}
+use Prim.Native.Nat.{ℕ, _+_, _*_, _/_, _≤_, _<_}
 use native.Mathlib.Omega.{arith}
 use mathlib.Core.Bool.{Bool, true, false, cond, _&&_}
 use mathlib.Core.List.{List, [], _∷_, _++_}
@@ -10,7 +10,7 @@ use borrow.Author.Tests.{ltb-true, eqb-true}
 use Rattle.rows.specs.declared.row.Row.{Row}
 use Rattle.rows.specs.declared.rules.Kind.{Kind}
 use Rattle.rows.specs.declared.rules.Kind.the-variants.{Pixel, Trigger, ImuCounts, ImuSingles, UsbPacket, Special, Other}
-use Rattle.rows.specs.Row.{timeOf, countsRow}
+use Rattle.rows.specs.Row.{timeOf}
 use Rattle.rows.specs.Rules.{kindOf, goodRow, Writable}
 use Rattle.rows.specs.Promises.{GoodMade}
 use Rattle.rows.proofs.GoodRows.{and-first, and-second}
@@ -21,7 +21,7 @@ use Rattle.words.specs.Promises.{Small}
 use Rattle.words.proofs.ReadBack.{Leads, leads-none, leads-word, leads-both}
 use Rattle.evt2.specs.declared.state.State.{State}
 use Rattle.evt2.specs.State.{withHigh, begun, further}
-use Rattle.evt2.specs.Words.{timeAt, countOf, countsOf, groupRow}
+use Rattle.evt2.specs.Words.{countsOf, groupRow}
 use Rattle.evt2.specs.Reader.{machine}
 use Rattle.evt2.specs.Spelling.{writable, writableAs, lowTimed, eventAs, eventWords, clockWords, wordsFrom}
 use Rattle.evt2.proofs.SpelledSteps.{widest, time-back, count-back, clock-step, pixel-step, trigger-step, imu-step, more-step, last-step}
@@ -186,17 +186,16 @@ module _ (r : Row) (good : goodRow r ≡ true) (can : writable r ≡ true) (narr
               (leads-both (leads-word (more-step s₄ (at + 4 + 4 + 4 + 4) refl (lowTimed r (r .e * 2)) (fits (r .e) (m .6)) refl))
               (leads-word (last-step s₅ (at + 4 + 4 + 4 + 4 + 4) refl (lowTimed r (r .f * 2)) (fits (r .f) (m .7)) refl)))))));
           shows = record { free = refl; known = h .known; shown = h .shown };
-          small =
+          small = (
+            omega (arith, fits (r .a) (m .2)),
+            (
+              omega (arith, fits (r .b) (m .3)),
               (
-                omega (arith, fits (r .a) (m .2)),
-                (
-                  omega (arith, fits (r .b) (m .3)),
-                  (
-                    omega (arith, fits (r .c) (m .4)),
-                    (omega (arith, fits (r .d) (m .5)), (omega (arith, fits (r .e) (m .6)), (omega (arith, fits (r .f) (m .7)), tt))),
-                  ),
-                ),
-              );
+                omega (arith, fits (r .c) (m .4)),
+                (omega (arith, fits (r .d) (m .5)), (omega (arith, fits (r .e) (m .6)), (omega (arith, fits (r .f) (m .7)), tt))),
+              ),
+            ),
+          );
         }
 
     event-goes : Goes (eventWords r) s at (r ∷ []) (timeOf r / 64)

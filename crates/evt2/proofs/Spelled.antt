@@ -11,13 +11,12 @@ use lib.ListN.{length, length-append}
 use lib.Seq.{sets}
 use lib.Dec.{eqb}
 use Rattle.rows.specs.declared.fault.Fault.{Fault}
-use Rattle.rows.specs.declared.fault.Writing.the-variants as writing
 use Rattle.rows.specs.declared.row.Row.{Row}
 use Rattle.rows.specs.declared.rules.Judged.the-variants.{Time, Refused}
 use Rattle.rows.specs.declared.rules.Kind.{Kind}
 use Rattle.rows.specs.declared.rules.Kind.the-variants.{Pixel, Trigger, ImuCounts, ImuSingles, UsbPacket, Special, Other}
 use Rattle.rows.specs.Row.{timeOf, roomOf, rowFrom, rowsFrom, rowsOf}
-use Rattle.rows.specs.Rules.{kindOf, judgedOf, accepted, refused, verdictFrom}
+use Rattle.rows.specs.Rules.{kindOf, judgedOf, verdictFrom}
 use Rattle.rows.proofs.Judged.{Judging, judging-start, judging-done, judging-next, judging-refused, judged-is-time}
 use Rattle.rows.proofs.rules.Kind.{the-type}
 use Rattle.words.specs.Fields.{typed}
@@ -25,6 +24,7 @@ use Rattle.words.specs.Words.{bytesOfAll}
 use Rattle.words.specs.Writer.{writingOf, PutWords}
 use Rattle.words.proofs.Writes.{Writes, writes-start, writes-length, writes-fit, writes-more, writes-done}
 use Rattle.evt2.specs.Spelling.{writable, writableAs, eventAs, eventWords, clockWords, wordsFrom}
+use Rattle.rows.specs.declared.fault.Writing.the-variants as writing
 
 -- the kinds that have no words, by their places in the enum
 abbrev wordless : List ℕ

@@ -1,32 +1,25 @@
 -- What each word that the writer spells does to a reader.
-use mathlib.Core.Path.{_≡_, refl, sym, _∙_, ap, subst}
-use Prim.Native.Nat.{ℕ, _+_, _*_, _/_, _%_, _^_, _≤_, _<_}
+use mathlib.Core.Path.{_≡_, refl, sym, _∙_, ap}
+use Prim.Native.Nat.{ℕ, _+_, _*_, _/_, _%_, _≤_, _<_}
 use native.Mathlib.Omega.{arith}
 use mathlib.Core.Bool.{Bool, true, false, cond, _&&_}
-use mathlib.Core.List.{List, [], _∷_, _++_}
+use mathlib.Core.List.{[], _∷_}
 use lib.Dec.{ltb, eqb, lit<}
-use borrow.Author.Tests.{lt-ltb, le-ltb, ltb-true, eqb-true, eqb-false}
+use borrow.Author.Tests.{lt-ltb, le-ltb, eqb-false}
 use Rattle.rows.specs.declared.row.Row.{Row}
-use Rattle.rows.specs.Row.{timeOf, pixelRow, triggerRow, countsRow}
-use Rattle.rows.specs.Rules.{kindOf, goodRow, Writable}
-use Rattle.rows.specs.Promises.{GoodMade}
-use Rattle.rows.proofs.GoodRows.{and-first, and-second}
-use Rattle.rows.proofs.Kept.{good-is-made}
+use Rattle.rows.specs.Row.{timeOf, pixelRow, triggerRow}
 use Rattle.words.specs.declared.picture.Picture.{Picture}
 use Rattle.words.specs.Fields.{field, typed}
-use Rattle.words.specs.Machine.{Outcome, next, Given, gives, onto}
+use Rattle.words.specs.Machine.{next, Given, gives, onto}
 use Rattle.words.specs.Picture.{pictureOf, inPicture}
-use Rattle.words.specs.Promises.{Small}
 use Rattle.words.proofs.Kept.{type-found, type-below}
-use Rattle.words.proofs.ReadBack.{Leads, leads-none, leads-word, leads-both}
 use Rattle.evt2.specs.declared.kind.Kind.{Kind}
-use Rattle.evt2.specs.declared.kind.Kind.the-variants.{Cd, TimeHigh, ExtTrigger, Imu, Inside}
+use Rattle.evt2.specs.declared.kind.Kind.the-variants.{Cd, Inside}
 use Rattle.evt2.specs.declared.state.State.{State}
 use Rattle.evt2.specs.State.{pending, withHigh, begun, further}
-use Rattle.evt2.specs.Words.{kindAt, kindIn, timeAt, pixelOf, goesBack, triggerOf, imuBegun, countOf, countsOf, groupRow, insideOf, givenAs, nextAs, step}
+use Rattle.evt2.specs.Words.{kindAt, kindIn, timeAt, pixelOf, goesBack, triggerOf, imuBegun, countOf, groupRow, insideOf, givenAs, nextAs, step}
+use Rattle.evt2.specs.Spelling.{writable, lowTimed}
 use Rattle.evt2.specs.Words as words
-use Rattle.evt2.specs.Reader.{machine}
-use Rattle.evt2.specs.Spelling.{writable, writableAs, lowTimed, eventAs, eventWords, clockWords, wordsFrom}
 
 -- the picture that every writable pixel lies in
 abbrev pub widest : Picture

@@ -18,6 +18,7 @@
 mod given;
 mod kind;
 mod reader;
+mod round_trip;
 mod state;
 mod writer;
 

@@ -20,11 +20,11 @@ use Rattle.words.specs.declared.Next.{Next}
 use Rattle.words.specs.declared.Next.the-variants.{Word, Part, End}
 use Rattle.words.specs.Words.{Words, word, firstOf, wordsOf, nextAt}
 use Rattle.words.specs.declared.Gave.{Gave}
-use Rattle.words.specs.declared.Gave.the-variants as gave
 use Rattle.words.specs.Machine.{next, fault, Given, gives, refuses, onto, Machine, run, closed, reading, readFrom}
 use Rattle.words.specs.Written.{GaveAs}
 use Rattle.words.proofs.Cut.{end-found, part-found, word-found, word-within, part-next}
 use Rattle.words.proofs.Wrote.{WroteAll, gave-all, gave-fault, WroteNone, gave-nothing}
+use Rattle.words.specs.declared.Gave.the-variants as gave
 
 module _ {S : Type 0} (m : Machine S) (bytes : List ℕ) where
   -- the loop began at `from` in s₀ on the buffer `old`; it is at `at` in s, and n rows are in `buf`

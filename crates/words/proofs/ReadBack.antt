@@ -1,5 +1,5 @@
 -- Words that a machine reads one after the other without a refusal, and the rows that they give.
-use mathlib.Core.Path.{_≡_, refl, sym, _∙_, ap, ap₂, subst}
+use mathlib.Core.Path.{_≡_, refl, sym, _∙_, ap}
 use Prim.Native.Nat.{ℕ, _+_, _-_, _≤_, _<_}
 use native.Mathlib.Omega.{arith}
 use native.Mathlib.Nat.{sub-zero}
@@ -8,10 +8,10 @@ use mathlib.Core.List.{List, [], _∷_, _++_, append-nil}
 use lib.ListN.{length, length-append}
 use borrow.Author.Tests.{le-leb}
 use Rattle.rows.specs.declared.row.Row.{Row}
-use Rattle.rows.specs.Runs.{Ending, finished, Run, prepend, stopped, andThen, Finishes}
+use Rattle.rows.specs.Runs.{finished, Run, prepend, stopped, andThen, Finishes}
 use Rattle.rows.proofs.Sequence.{prepend-none, prepend-both}
 use Rattle.words.specs.Words.{Words, word, whole, cutBy, wordsOf, bytesOfAll}
-use Rattle.words.specs.Machine.{next, Machine, Reached, run, closed, reading, readFrom}
+use Rattle.words.specs.Machine.{next, Machine, Reached, run, closed, reading}
 use Rattle.words.specs.Promises.{Small, before}
 use Rattle.words.proofs.Bytes.{words-back}
 

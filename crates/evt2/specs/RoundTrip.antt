@@ -1,0 +1,19 @@
+-- What the code is shown to do when it writes rows and reads them back. Only a private function's contract cites it.
+use mathlib.Core.Path.{_≡_}
+use Prim.Native.Nat.{ℕ}
+use mathlib.Core.Bool.{Bool, true, false, cond}
+use mathlib.Core.List.{List}
+use lib.ListN.{length}
+use Rattle.rows.specs.Row.{over}
+use Rattle.rows.specs.Rules.{Verdict, accepted, refused}
+use Rattle.words.specs.Writer.{writingVerdict}
+use Rattle.evt2.specs.Spelling.{spelling}
+
+abbrev pub passes : Verdict → Bool
+passes accepted = true
+passes (refused f i) = false
+
+-- `l` was written into `out` if it passes, and then the buffer that was read into begins with `l` itself
+pub record CameBack (l out old new : List ℕ) (r : Bool) : Type 0 where
+  pub written : r ≡ passes (writingVerdict spelling l (length out))
+  pub back : new ≡ cond (passes (writingVerdict spelling l (length out))) (over l old) old

@@ -6,6 +6,7 @@ use crate::text::number32;
 use crate::text::say;
 use crate::text::single;
 use rows::Judged;
+use rows::Kind;
 use rows::Row;
 use rows::RowAt;
 
@@ -174,7 +175,7 @@ pub(crate) fn buffers() {
 }
 
 fn judged(name: &[u8], row: Row, writable: bool, last: u64) {
-    let judged = rows::judge(row, writable, last);
+    let judged = rows::judge(Kind::of(row.kind), row, writable, last);
     match judged {
         Judged::Time(_) => line(name, 0),
         Judged::Refused(fault) => line(name, fault.number()),

@@ -11,13 +11,14 @@ use lib.ListN.{length, length-append}
 use lib.Seq.{sets}
 use lib.Dec.{eqb}
 use Rattle.rows.specs.declared.fault.Fault.{Fault}
+use Rattle.rows.specs.declared.fault.Fault.the-variants.{BadRow}
 use Rattle.rows.specs.declared.row.Row.{Row}
 use Rattle.rows.specs.declared.rules.Judged.the-variants.{Time, Refused}
 use Rattle.rows.specs.declared.rules.Kind.{Kind}
 use Rattle.rows.specs.declared.rules.Kind.the-variants.{Pixel, Trigger, ImuCounts, ImuSingles, UsbPacket, Special, Other}
 use Rattle.rows.specs.Row.{timeOf, roomOf, rowFrom, rowsFrom, rowsOf}
-use Rattle.rows.specs.Rules.{kindOf, judgedOf, verdictFrom}
-use Rattle.rows.proofs.Judged.{Judging, judging-start, judging-done, judging-next, judging-refused, judged-is-time}
+use Rattle.rows.specs.Rules.{kindOf, judgedAs, judgedOf, verdictFrom}
+use Rattle.rows.proofs.Judged.{Judging, judging-start, judging-done, judging-next, judging-refused, judged-own, judged-unwritable, judged-is-time}
 use Rattle.rows.proofs.rules.Kind.{the-type}
 use Rattle.words.specs.Fields.{typed}
 use Rattle.words.specs.Words.{bytesOfAll}
@@ -48,6 +49,18 @@ not-writable ImuSingles r h = refl
 not-writable UsbPacket r h = refl
 not-writable Special r h = refl
 not-writable Other r h = refl
+
+-- a row judged by the rules of its own kind, or for which EVT2 has no words
+module _ (r : Row) (last : ℕ) {k : Kind} (is : kindOf (r .kind) ≡ k) where
+  can : {w : Bool} → writableAs k r ≡ w → writable r ≡ w
+  unfolding writable
+  can e = ap (λ (j : Kind). writableAs j r) is ∙ e
+
+  pub judged-kind : {w : Bool} → writableAs k r ≡ w → judgedAs k w r last ≡ judgedOf (writable r) r last
+  judged-kind {w} e = judged-own r w last is ∙ ap (λ (t : Bool). judgedOf t r last) (sym (can e))
+
+  pub judged-wordless : writableAs k r ≡ false → Refused BadRow ≡ judgedOf (writable r) r last
+  judged-wordless e = judged-unwritable r last ∙ ap (λ (t : Bool). judgedOf t r last) (sym (can e))
 
 -- an event takes six words at most, and seven with its high part
 event-short : (k : Kind) (r : Row) → length (eventAs k r) ≤ 6

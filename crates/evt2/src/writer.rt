@@ -8,7 +8,7 @@ ghost use lib.Dec.{eqb};
 ghost use lib.Seq.{sets};
 ghost use Rattle.rows.specs.declared.rules.Kind.the-variants as Kind;
 ghost use Rattle.rows.specs.Row.{rowsOf};
-ghost use Rattle.rows.specs.Rules.{verdictFrom};
+ghost use Rattle.rows.specs.Rules.{judgedOf, verdictFrom};
 ghost use Rattle.words.specs.Words.{bytesOfAll};
 ghost use Rattle.words.specs.Writer.{spelled, writingOf, WroteAs, PutWords};
 ghost use Rattle.evt2.specs.Spelling.{writable, eventAs, eventWords, clockWords, spelling};
@@ -19,21 +19,21 @@ use rows::Row;
 use rows::RowAt;
 use rows::Writing;
 
-// Whether EVT2 has words for a good row.
-fn is_writable(row: Row) -> bool
-    ensures { λ r. ⌜ r ≡ writable row ⌝ }
+// Judges a row after a row of the time `last`: 12 where it is bad or EVT2 has no words for it, then 5.
+fn judge(row: Row, last: u64) -> Judged
+    ensures { λ r. ⌜ r ≡ judgedOf (writable row) row last ⌝ }
 {
     let kind = Kind::of(row.kind);
     match kind {
         Kind::Pixel => {
             if row.a < 2048 {
-                return row.b < 2048;
+                return rows::judge(Kind::Pixel, row, row.b < 2048, last);
             }
-            false
+            Judged::Refused(Fault::BadRow)
         }
-        Kind::Trigger => true,
-        Kind::ImuCounts => true,
-        _ => false,
+        Kind::Trigger => rows::judge(Kind::Trigger, row, true, last),
+        Kind::ImuCounts => rows::judge(Kind::ImuCounts, row, true, last),
+        _ => Judged::Refused(Fault::BadRow),
     }
 }
 
@@ -85,7 +85,7 @@ fn count(rows: &[u32]) -> Writing
                 return Writing::Written { count: words };
             }
             RowAt::Found(row) => {
-                let judged = rows::judge(row, is_writable(row), last);
+                let judged = judge(row, last);
                 match judged {
                     Judged::Refused(fault) => {
                         return Writing::Refused { fault, row: i };

@@ -11,19 +11,32 @@ use borrow.Author.Tests.{lt-ltb, le-ltb, ltb-false}
 use Rattle.rows.specs.declared.fault.Fault.{Fault}
 use Rattle.rows.specs.declared.fault.Fault.the-variants.{BadTime, BadRow, BadList}
 use Rattle.rows.specs.declared.row.Row.{Row}
+use Rattle.rows.specs.declared.rules.Kind.{Kind}
 use Rattle.rows.specs.declared.rules.Judged.the-variants.{Time, Refused}
 use Rattle.rows.specs.Row.{timeOf, roomOf, rowFrom, rowsFrom, rowsOf}
-use Rattle.rows.specs.Rules.{goodRow, judgedOf, accepted, refused, verdictThen, verdictFrom, goodLength, verdictOf, Writable}
+use Rattle.rows.specs.Rules.{kindOf, goodAs, goodRow, judgedBy, judgedAs, judgedOf, accepted, refused, verdictThen, verdictFrom, goodLength, verdictOf, Writable}
 
 -- a good row that the format can write is judged by its time t
-module _ (r : Row) {writable : Bool} {t : ℕ} (last : ℕ) (g : goodRow r ≡ true) (w : writable ≡ true) (e : t ≡ timeOf r) where
-  pub judged-back : t < last → Refused BadTime ≡ judgedOf writable r last
-  unfolding judgedOf
+module _ (r : Row) {good writable : Bool} {t : ℕ} (last : ℕ) (g : good ≡ true) (w : writable ≡ true) (e : t ≡ timeOf r) where
+  pub judged-back : t < last → Refused BadTime ≡ judgedBy good writable r last
   judged-back h = simp (g, w, lt-ltb (timeOf r) last (subst (λ (k : ℕ). k < last) e h))
 
-  pub judged-time : last ≤ t → Time t ≡ judgedOf writable r last
-  unfolding judgedOf
+  pub judged-time : last ≤ t → Time t ≡ judgedBy good writable r last
   judged-time h = simp (g, w, le-ltb (timeOf r) last (subst (λ (k : ℕ). last ≤ k) e h)) (ap Time e)
+
+-- the rules of a row's own kind are those of the row
+pub judged-own : (r : Row) (writable : Bool) (last : ℕ) {k : Kind} → kindOf (r .kind) ≡ k → judgedAs k writable r last ≡ judgedOf writable r last
+unfolding judgedAs judgedOf goodRow
+judged-own r writable last e = ap (λ (k : Kind). judgedBy (goodAs k r) writable r last) (sym e)
+
+-- a row that no format can write
+pub judged-unwritable : (r : Row) (last : ℕ) → Refused BadRow ≡ judgedOf false r last
+unfolding judgedOf
+judged-unwritable r last = go (goodRow r)
+  where
+    go : (g : Bool) → Refused BadRow ≡ judgedBy g false r last
+    go true = refl
+    go false = refl
 
 -- and a row that is not refused has that time
 pub judged-is-time : (writable : Bool) (r : Row) (last : ℕ) {t : ℕ} → Time t ≡ judgedOf writable r last → t ≡ timeOf r

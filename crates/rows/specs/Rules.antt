@@ -69,11 +69,18 @@ AllGood [] = Unit {0}
 AllGood (r ∷ rs) = (goodRow r ≡ true) × AllGood rs
 
 -- one row of a list to be written, after a last time: 12 where it is bad or unwritable, then 5 where its time goes back
-unfoldable pub judgedOf : Bool → Row → ℕ → Judged
-judgedOf writable r last =
-    cond (goodRow r && writable)
+abbrev pub judgedBy : Bool → Bool → Row → ℕ → Judged
+judgedBy good writable r last =
+    cond (good && writable)
     (cond (ltb (timeOf r) last) (Refused BadTime) (Time (timeOf r)))
     (Refused BadRow)
+
+-- by the rules of a kind, and by those of its own
+unfoldable pub judgedAs : Kind → Bool → Row → ℕ → Judged
+judgedAs kind writable r last = judgedBy (goodAs kind r) writable r last
+
+unfoldable pub judgedOf : Bool → Row → ℕ → Judged
+judgedOf writable r last = judgedBy (goodRow r) writable r last
 
 -- the verdict of a list: none refused, or a refusal and the index of the first bad row
 pub data Verdict : Type 0 where

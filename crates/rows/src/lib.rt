@@ -6,7 +6,7 @@
 //
 //     Row::pixel(time, x, y, polarity)    a row of a kind from its values; so for the other five kinds
 //     put(rows, i, row), get(rows, i)     row i of a lent slice; where there is no row i nothing is touched
-//     good(row), judge(row, ..)           the row rules, and what a writer asks of one row after another
+//     good(row), judge(kind, row, ..)     the row rules, and what a writer asks of one row after another
 //     event_of(row)                       the typed event, an IMU's readings as f32
 //     Reading, Writing, Fault             what a reader and a writer answer, with the number of each refusal
 //

@@ -2,7 +2,7 @@
 ghost use mathlib.Core.Path.{_≡_};
 ghost use mathlib.Core.List.{[], _∷_};
 ghost use lib.ListN.{length};
-ghost use Rattle.rows.specs.Rules.{kindOf, unused, below, timely, goodPair, goodAs, goodRow, judgedOf, goodLength};
+ghost use Rattle.rows.specs.Rules.{kindOf, unused, below, timely, goodPair, goodAs, goodRow, judgedAs, goodLength};
 use crate::fault::Fault;
 use crate::row::Row;
 
@@ -175,12 +175,12 @@ pub fn good_length(rows: &[u32]) -> bool
     rows.len() / 10 <= 16777216
 }
 
-// One row of a list to be written, after a row of the time `last`: 12 where it is bad or the format cannot
-// write it, then 5 where its time is below `last`.
-pub fn judge(row: Row, writable: bool, last: u64) -> Judged
-    ensures { λ r. ⌜ r ≡ judgedOf writable row last ⌝ }
+// One row of a list to be written, by the rules of a kind, which is the row's own, after a row of the time `last`: 12 where it
+// is bad or the format cannot write it, then 5 where its time is below `last`. A format that has matched on the kind says which.
+pub fn judge(kind: Kind, row: Row, writable: bool, last: u64) -> Judged
+    ensures { λ r. ⌜ r ≡ judgedAs kind writable row last ⌝ }
 {
-    if !good(row) {
+    if !good_as(kind, row) {
         return Judged::Refused(Fault::BadRow);
     }
     if !writable {

@@ -1,14 +1,12 @@
 -- `evt2::writer::count` meets its contract.
--- `evt2::writer::count` meets its contract.
--- `evt2::writer::count` meets its contract.
-use Rattle.rows.specs.Row.{roomOf, rowFrom}
-use Rattle.rows.specs.declared.row.Row.{Row}
-use Prim.Native.Nat.{_*_, _-_, _<_}
-use mathlib.Core.Path.{_≡_, sym, _∙_}
 use borrow.Author.Needs.{needs}
 use Rattle.evt2.proofs.Spelled.{Counting, counting-start, counting-done, counting-refused, counting-next, row-short}
 use Rattle.rows.proofs.Lists.{row-found, row-past}
+use Rattle.rows.specs.Row.{roomOf, rowFrom}
+use Rattle.rows.specs.declared.row.Row.{Row}
+use Prim.Native.Nat.{_*_, _-_, _<_}
 use native.Mathlib.Omega.{arith}
+use mathlib.Core.Path.{_≡_, sym, _∙_}
 use Rattle.evt2.proofs.writer.count.Statement.{statement}
 use Rattle.evt2.proofs.writer.count.Tie as tie
 
@@ -43,9 +41,6 @@ returns c = counting-done (c .before .before .before .loop .inv) (row-past (c .b
 enum-known-found : tie.Need-enum-known-found Inv-loop μ-loop
 enum-known-found c = search needs
 
-is-writable-requires : tie.Need-is-writable-requires Inv-loop μ-loop
-is-writable-requires c κs = search needs
-
 judge-requires : tie.Need-judge-requires Inv-loop μ-loop
 judge-requires c κs = search needs
 
@@ -54,8 +49,8 @@ enum-known-judged c = search needs
 
 returns-2 : tie.Need-returns-2 Inv-loop μ-loop
 returns-2 c =
-    let at = here (c .before .before .before .before .before) in
-    counting-refused (c .before .before .before .before .before .before .before .before .before .loop .inv) (at .0) (at .1) (rw (sym (c .before .before .before .before .is-writable .ensures)) (sym (c .before .judged .given .1) ∙ c .before .before .before .judge .ensures))
+    let at = here (c .before .before .before .before) in
+    counting-refused (c .before .before .before .before .before .before .before .before .loop .inv) (at .0) (at .1) (sym (c .before .judged .given .1) ∙ c .before .before .before .judge .ensures)
 
 enum-known-judged-2 : tie.Need-enum-known-judged-2 Inv-loop μ-loop
 enum-known-judged-2 c = search needs
@@ -67,23 +62,22 @@ event-length-requires : tie.Need-event-length-requires Inv-loop μ-loop
 event-length-requires c κs = search needs
 
 add-words : tie.Need-add-words Inv-loop μ-loop
-add-words c =
-    omega (arith, row-short _ _ _ _ (c .before .clock-length .ensures) (c .event-length .ensures))
+add-words c = omega (arith, row-short _ _ _ _ (c .before .clock-length .ensures) (c .event-length .ensures))
 
 add-words-2 : tie.Need-add-words-2 Inv-loop μ-loop
 add-words-2 c =
-    omega (arith, row-short _ _ _ _ (c .before .clock-length .ensures) (c .event-length .ensures), c .before .before .before .before .before .before .before .before .before .before .before .loop .inv .small, here (c .before .before .before .before .before .before .before) .0, c .before .before .before .before .before .before .before .before .before .before .before .before .before .good)
+    omega (arith, row-short _ _ _ _ (c .before .clock-length .ensures) (c .event-length .ensures), c .before .before .before .before .before .before .before .before .before .before .loop .inv .small, here (c .before .before .before .before .before .before) .0, c .before .before .before .before .before .before .before .before .before .before .before .before .good)
 
 add-i : tie.Need-add-i Inv-loop μ-loop
-add-i c = omega (arith, here (c .before .before .before .before .before .before .before) .0, c .before .before .before .before .before .before .before .before .before .before .before .before .before .good)
+add-i c = omega (arith, here (c .before .before .before .before .before .before) .0, c .before .before .before .before .before .before .before .before .before .before .before .before .good)
 
 loop-less : tie.Need-loop-less Inv-loop μ-loop
-loop-less c = omega (arith, here (c .before .before .before .before .before .before .before) .0)
+loop-less c = omega (arith, here (c .before .before .before .before .before .before) .0)
 
 loop-again : tie.Need-loop-again Inv-loop μ-loop
 loop-again c =
-    let at = here (c .before .before .before .before .before .before .before) in
-    counting-next (c .before .before .before .before .before .before .before .before .before .before .before .loop .inv) (at .0) (at .1) (rw (sym (c .before .before .before .before .before .before .is-writable .ensures)) (sym (c .before .before .before .judged2 .given .1) ∙ c .before .before .before .before .before .judge .ensures)) (c .before .clock-length .ensures) (c .event-length .ensures)
+    let at = here (c .before .before .before .before .before .before) in
+    counting-next (c .before .before .before .before .before .before .before .before .before .before .loop .inv) (at .0) (at .1) (sym (c .before .before .before .judged2 .given .1) ∙ c .before .before .before .before .before .judge .ensures) (c .before .clock-length .ensures) (c .event-length .ensures)
 
 pub count-spec : {M : Type 1} → statement M
 count-spec =
@@ -96,7 +90,6 @@ count-spec =
     enum-told
     returns
     enum-known-found
-    is-writable-requires
     judge-requires
     enum-known-judged
     returns-2

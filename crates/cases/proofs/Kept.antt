@@ -1,12 +1,18 @@
 -- The statement of specs/Cases.antt, proved by computing each case's meaning.
 use mathlib.Core.Path.{refl}
-use Rattle.rows.specs.Row.{timed}
+use lib.Ieee.{ofBits, ofInt, div}
+use Rattle.rows.specs.Row.{timed, timeOf}
 use Rattle.words.specs.Picture.{inPicture, admissionOf}
 use Rattle.words.specs.Words.{cutBy, wordsOf, bytesOf}
+use Rattle.rows.specs.Rules.{goodAs, goodRow}
+use Rattle.rows.specs.Rules as rules
+use Rattle.rows.specs.Readings.{accelerationOf, rotationOf}
+use Rattle.rows.specs.Event.{countsEvent, eventAs, eventOf}
+use Rattle.evt2.specs.Words as evt2
 use Rattle.evt3.specs.State.{moved}
 use Rattle.evt3.specs.Words as evt3
 use Rattle.cases.specs.Cases.{StarCases}
 
 pub star-cases : StarCases
-unfolding timed inPicture admissionOf cutBy wordsOf bytesOf moved evt3.kindOf evt3.wrapsAt evt3.withLow evt3.pixels evt3.pixelOf evt3.columns evt3.vectorOf evt3.step
-star-cases = (refl, (refl, (refl, (refl, tt))))
+unfolding timed timeOf ofBits ofInt div eventAs countsEvent inPicture admissionOf cutBy wordsOf bytesOf goodAs goodRow rules.kindOf accelerationOf rotationOf eventOf evt2.kindOf evt2.kindIn evt2.timeAt evt2.pixelOf evt2.goesBack evt2.triggerOf evt2.imuBegun evt2.countsOf evt2.groupRow evt2.insideOf evt2.step moved evt3.kindOf evt3.wrapsAt evt3.withLow evt3.pixels evt3.pixelOf evt3.columns evt3.vectorOf evt3.step
+star-cases = (refl, (refl, (refl, (refl, (refl, (refl, (refl, (refl, tt))))))))

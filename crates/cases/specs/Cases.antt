@@ -1,30 +1,36 @@
--- The cases that 01 marks with a star, as one list: an input, and what is seen of it. So far those of the EVT3 reader.
+-- The cases that 01 marks with a star, as one list: an input, and what is seen of it. So far those of the EVT2 and EVT3 readers.
 use mathlib.Core.Path.{_≡_}
 use Prim.Native.Nat.{ℕ}
-use mathlib.Core.Bool.{cond}
+use mathlib.Core.Bool.{Bool, true, cond}
 use mathlib.Core.List.{List, [], _∷_, _++_}
 use lib.Dec.{eqb}
-use lib.Ieee.{Float}
+use lib.IntN.{pos, negsuc}
+use lib.Ieee.{Float, binary32, ofInt}
 use Rattle.rows.specs.declared.event.Conversion.{Conversion}
 use Rattle.rows.specs.declared.event.Conversion.the-variants.{Turned, Refused}
 use Rattle.rows.specs.declared.fault.Fault.{Fault}
 use Rattle.rows.specs.declared.row.Row.{Row}
-use Rattle.rows.specs.Event.{eventOf, readingsOf}
-use Rattle.rows.specs.Row.{pixelRow}
+use Rattle.rows.specs.Event.{eventOf, plusZero, readingsOf}
+use Rattle.rows.specs.Row.{pixelRow, triggerRow, countsRow}
 use Rattle.rows.specs.Runs.{Ending, finished, refused, Run}
 use Rattle.words.specs.Machine.{Reached}
 use Rattle.words.specs.Words.{bytesOfAll}
-use Rattle.evt3.specs.declared.state.State.{State}
 use Rattle.words.specs.Picture.{pictureOf}
+use Rattle.evt2.specs.declared.state.State as evt2State
+use Rattle.evt2.specs.Reader as evt2Reader
+use Rattle.evt3.specs.declared.state.State.{State}
 use Rattle.evt3.specs.Reader.{readingOf}
 use Rattle.evt3.specs.State.{fresh, withHigh, withTime, withY, withBase}
 
--- what is read: EVT3 words, for a picture of 2,048 by 2,048
+-- what is read: EVT2 or EVT3 words, for a picture of 2,048 by 2,048
 pub data Input : Type 0 where
+  evt2 : List ℕ → Input
   evt3 : List ℕ → Input
 
--- how the reading ends: in a state, or by a refusal at a place
+-- how the reading ends: in a state (of EVT2, whether a high part is known, which, and how many words of a group are to come), or by
+-- a refusal at a place
 pub data Final : Type 0 where
+  evt2Ends : Bool → ℕ → ℕ → Final
   evt3Ends : State → Final
   refusedAt : Fault → ℕ → Final
 
@@ -46,6 +52,13 @@ abbrev pub allReadings : List Row → List Float
 allReadings [] = []
 allReadings (r ∷ rs) = rowReadings r ++ allReadings rs
 
+abbrev pub evt2Final : Ending (Reached evt2State.State) → Final
+evt2Final (finished r) = evt2Ends (r .state .known) (r .state .high) (r .state .left)
+evt2Final (refused f place) = refusedAt f place
+
+abbrev pub evt2Seen : Run (Reached evt2State.State) → Seen
+evt2Seen run = record { rows = run .rows; final = evt2Final (run .ending); readings = allReadings (run .rows) }
+
 abbrev pub evt3Final : Ending (Reached State) → Final
 evt3Final (finished r) = evt3Ends (r .state)
 evt3Final (refused f place) = refusedAt f place
@@ -55,6 +68,7 @@ evt3Seen run = record { rows = run .rows; final = evt3Final (run .ending); readi
 
 -- with room for 100 rows, which no case fills
 abbrev pub seenOf : Input → Seen
+seenOf (evt2 ws) = evt2Seen (evt2Reader.readingOf (pictureOf 2048 2048) (bytesOfAll 4 ws) 100)
 seenOf (evt3 ws) = evt3Seen (readingOf (pictureOf 2048 2048) (bytesOfAll 2 ws) 100)
 
 -- a case, and that it holds
@@ -69,6 +83,13 @@ EachHolds (c ∷ cs) = (seenOf (c .input) ≡ c .seen) × EachHolds cs
 -- the state of an EVT3 reader after 8001 6002 0003
 abbrev pub timed : State
 timed = withY (withTime (withHigh fresh 1 0) 4098) 3
+
+-- the five CONTINUED of an IMU reading that is 0 but along X, and its other readings (a temperature of +0 stands for none)
+abbrev pub still : List ℕ
+still = 0xF0000000 ∷ 0xF0000000 ∷ 0xF0000000 ∷ 0xF0000000 ∷ 0xF0000000 ∷ []
+
+abbrev pub zeros : List Float
+zeros = plusZero ∷ plusZero ∷ plusZero ∷ plusZero ∷ plusZero ∷ plusZero ∷ []
 
 abbrev pub starCases : List Case
 starCases =
@@ -101,6 +122,26 @@ starCases =
     ∷ record {
       input = evt3 (0x8FFF ∷ 0x8000 ∷ 0x6000 ∷ []);
       seen = record { rows = []; final = evt3Ends (withTime (withHigh fresh 0 1) 16777216); readings = [] };
+    }
+    -- EVT2: one pixel
+    ∷ record {
+      input = evt2 (0x80000001 ∷ 0x10802803 ∷ []);
+      seen = record { rows = pixelRow 66 5 3 1 ∷ []; final = evt2Ends true 1 0; readings = [] };
+    }
+    -- then a trigger, of an earlier low time
+    ∷ record {
+      input = evt2 (0x80000001 ∷ 0x10802803 ∷ 0xA0000601 ∷ []);
+      seen = record { rows = pixelRow 66 5 3 1 ∷ triggerRow 64 6 1 ∷ []; final = evt2Ends true 1 0; readings = [] };
+    }
+    -- an IMU reading of 1 g along X
+    ∷ record {
+      input = evt2 (0x80000001 ∷ 0xD0008000 ∷ still);
+      seen = record { rows = countsRow 64 16384 0 0 0 0 0 ∷ []; final = evt2Ends true 1 0; readings = ofInt binary32 (pos 1) ∷ zeros };
+    }
+    -- and of -2 g
+    ∷ record {
+      input = evt2 (0x80000001 ∷ 0xD0010000 ∷ still);
+      seen = record { rows = countsRow 64 32768 0 0 0 0 0 ∷ []; final = evt2Ends true 1 0; readings = ofInt binary32 (negsuc 1) ∷ zeros };
     }
     ∷ []
 

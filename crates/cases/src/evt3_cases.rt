@@ -1,66 +1,18 @@
-// EVT3 words read: the cases of the requirement, and cases on both sides of a limit. A line has the refusal, the rows and the
-// place; then follow the rows, and the number that stands after them in a buffer of sevens.
-use crate::text::line;
-use crate::text::number;
-use crate::text::number32;
-use crate::text::say;
-use rows::ReadingNumbers;
-use rows::Row;
-use rows::RowAt;
-
-fn row(row: Row) {
-    say(b"   ");
-    number32(row.kind);
-    number(row.time());
-    number32(row.a);
-    number32(row.b);
-    number32(row.c);
-    number32(row.d);
-    number32(row.e);
-    number32(row.f);
-    number32(row.g);
-    say(b"\n");
-}
-
-// The first rows of a buffer.
-fn first(buffer: &[u32], count: u64) {
-    let mut i: u64 = 0;
-    while i < count {
-        let found = rows::get(buffer, i as usize);
-        match found {
-            RowAt::Found(found) => row(found),
-            RowAt::Nothing => say(b"    no row\n"),
-        }
-        i += 1;
-    }
-}
-
-fn answer(name: &[u8], reading: ReadingNumbers, buffer: &[u32]) {
-    say(name);
-    number(reading.refusal);
-    number(reading.rows);
-    number(reading.place);
-    say(b"\n");
-    first(buffer, reading.rows);
-    let next = rows::get(buffer, reading.rows as usize);
-    match next {
-        RowAt::Found(row) => line(b"    then", row.kind as u64),
-        RowAt::Nothing => say(b"    then the end\n"),
-    }
-}
+// EVT3 words read: the cases of the requirement, and cases on both sides of a limit.
+use crate::answers::reading;
 
 // Room for six rows.
 fn read(name: &[u8], bytes: &[u8], width: u32) {
     let mut buffer = [7u32; 60];
-    let reading = evt3::read(bytes, width, 2048, &mut buffer).numbers();
-    answer(name, reading, &buffer);
+    let answer = evt3::read(bytes, width, 2048, &mut buffer).numbers();
+    reading(name, answer, &buffer);
 }
 
 // Room for one row.
 fn read_one(name: &[u8], bytes: &[u8]) {
     let mut buffer = [7u32; 10];
-    let reading = evt3::read(bytes, 2048, 2048, &mut buffer).numbers();
-    answer(name, reading, &buffer);
+    let answer = evt3::read(bytes, 2048, 2048, &mut buffer).numbers();
+    reading(name, answer, &buffer);
 }
 
 pub(crate) fn reads() {

@@ -1,5 +1,7 @@
 // Runs cases and writes what comes back, a line each. The file stdout beside src/ says what that must be; it is written
 // from the requirement and taken from no run.
+mod answers;
+mod evt2_cases;
 mod evt3_cases;
 mod row_cases;
 mod text;
@@ -21,4 +23,6 @@ fn main() {
     word_cases::reads();
     word_cases::puts();
     evt3_cases::reads();
+    evt2_cases::reads();
+    evt2_cases::writes();
 }

@@ -1,8 +1,8 @@
--- `cases::evt3_cases::first` meets its contract.
+-- `cases::answers::first` meets its contract.
 use Prim.Native.Nat.{_-_, _≤_}
 use borrow.Author.Needs.{needs}
-use Rattle.cases.proofs.evt3_cases.first.Statement.{statement}
-use Rattle.cases.proofs.evt3_cases.first.Tie as tie
+use Rattle.cases.proofs.answers.first.Statement.{statement}
+use Rattle.cases.proofs.answers.first.Tie as tie
 
 abbrev Inv-loop : tie.InvT-loop
 Inv-loop buffer count i₀ t6 i = i ≤ count

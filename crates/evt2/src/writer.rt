@@ -165,9 +165,9 @@ fn put_rows(rows: &[u32], out: &mut [u8])
     let mut at: usize = 0;
     let mut told = false;
     let mut last: u64 = 0;
-    let mut i: usize = 0;
+    let mut done: usize = 0;
     loop {
-        let found = rows::get(rows, i);
+        let found = rows::get(rows, done);
         match found {
             RowAt::Nothing => {
                 return;
@@ -178,7 +178,7 @@ fn put_rows(rows: &[u32], out: &mut [u8])
                 at = put_event(out, at, row);
                 told = true;
                 last = time;
-                i += 1;
+                done += 1;
             }
         }
     }

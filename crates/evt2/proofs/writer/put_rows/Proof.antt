@@ -12,10 +12,10 @@ use Rattle.evt2.proofs.writer.put_rows.Statement.{statement}
 use Rattle.evt2.proofs.writer.put_rows.Tie as tie
 
 abbrev Inv-loop : tie.InvT-loop
-Inv-loop rows out₀ at₀ told₀ last₀ i₀ out at told last i = Putting rows out₀ at told (last / 64) i out
+Inv-loop rows out₀ at₀ told₀ last₀ done₀ out at told last done = Putting rows out₀ at told (last / 64) done out
 
 abbrev μ-loop : tie.MeasureT-loop
-μ-loop rows out₀ at₀ told₀ last₀ i₀ out at told last i = roomOf rows - i
+μ-loop rows out₀ at₀ told₀ last₀ done₀ out at told last done = roomOf rows - done
 
 -- where a row was found
 abbrev Found-place : Type 0
@@ -24,8 +24,8 @@ Found-place = tie.After-known-told Inv-loop μ-loop
 abbrev row : Found-place → Row
 row d = d .before .found .given .0 .0
 
-here : (d : Found-place) → (d .before .before .before .before .loop .i < roomOf (d .before .before .before .before .before .before .before .args .rows .now)) × (row d ≡ rowFrom (d .before .before .before .before .before .before .before .args .rows .now) (d .before .before .before .before .loop .i * 10))
-here d = row-found (d .before .before .before .before .before .before .before .args .rows .now) (d .before .before .before .before .loop .i) (sym (d .before .found .given .1) ∙ d .before .before .before .get .ensures)
+here : (d : Found-place) → (d .before .before .before .before .loop .done < roomOf (d .before .before .before .before .before .before .before .args .rows .now)) × (row d ≡ rowFrom (d .before .before .before .before .before .before .before .args .rows .now) (d .before .before .before .before .loop .done * 10))
+here d = row-found (d .before .before .before .before .before .before .before .args .rows .now) (d .before .before .before .before .loop .done) (sym (d .before .found .given .1) ∙ d .before .before .before .get .ensures)
 
 loop-holds : tie.Need-loop-holds Inv-loop μ-loop
 loop-holds c = putting-start _ _
@@ -40,7 +40,7 @@ same-length : tie.Need-same-length Inv-loop μ-loop
 same-length c = putting-length (c .before .before .before .loop .inv)
 
 returns : tie.Need-returns Inv-loop μ-loop
-returns c = putting-done (c .before .before .before .loop .inv) (row-past (c .before .before .before .before .before .before .args .rows .now) (c .before .before .before .loop .i) (sym (c .enum-told .given .1) ∙ c .before .before .get .ensures))
+returns c = putting-done (c .before .before .before .loop .inv) (row-past (c .before .before .before .before .before .before .args .rows .now) (c .before .before .before .loop .done) (sym (c .enum-told .given .1) ∙ c .before .before .get .ensures))
 
 enum-known-found : tie.Need-enum-known-found Inv-loop μ-loop
 enum-known-found c = search needs
@@ -58,8 +58,8 @@ put-event-requires c κs =
     let at = here (c .before .before .before .before .before .before) in
     event-fits (c .before .before .before .before .before .before .before .before .before .before .loop .inv) (at .0) (at .1) (rw (c .before .before .before .before .before .time .ensures) at (c .before .before .before .put-clock .ensures)) (c .before .before .before .before .before .before .before .before .before .before .before .before .before .pre)
 
-add-i : tie.Need-add-i Inv-loop μ-loop
-add-i c = omega (arith, here (c .before .before .before .before .before .before .before .before .before) .0, c .before .before .before .before .before .before .before .before .before .before .before .before .before .before .before .before .good)
+add-done : tie.Need-add-done Inv-loop μ-loop
+add-done c = omega (arith, here (c .before .before .before .before .before .before .before .before .before) .0, c .before .before .before .before .before .before .before .before .before .before .before .before .before .before .before .before .good)
 
 loop-less : tie.Need-loop-less Inv-loop μ-loop
 loop-less c = omega (arith, here (c .before .before .before .before .before .before .before .before .before) .0)
@@ -84,6 +84,6 @@ put-rows-spec =
     time-requires
     put-clock-requires
     put-event-requires
-    add-i
+    add-done
     loop-less
     loop-again)

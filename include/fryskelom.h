@@ -17,7 +17,7 @@ typedef struct {
     uint64_t refusal, rows, place;
 } fry_reading;
 
-/* A writer's answer. refusal 0: count words were written. Else count is the index of the first bad row. */
+/* A writer's answer. refusal 0: count words were written. Else count is the index of the first bad row, and 0 for 2 and 13. */
 typedef struct {
     uint64_t refusal, count;
 } fry_writing;
@@ -39,15 +39,17 @@ fry_event fry_event_of(const uint32_t *row, size_t len);
  * none. What lies past the finished rows is not touched, refused or not.
  * Refused before any word, with no rows and place 0: 1, then 14. */
 
-/* Reads the EVT2 words of a recording. Refused at a word, in this order: 4, 3, 5, 8, 6, 2. Inside an IMU or USB group only 4
- * and 8 are met; the place of 4 and 2 is then the group's, and that of 8 the stray word's. */
+/* Reads the EVT2 words of a recording. Refused at a word, in this order: 4, 3, 5, 6, 2. Inside an IMU or USB group a word is
+ * refused 4, where the group begins, or 8, where the word stands that does not continue it; a whole group without room is
+ * refused 2, where the group begins. */
 fry_reading fry_read_evt2(const uint8_t *bytes, size_t bytes_len, uint32_t width, uint32_t height, uint32_t *rows, size_t rows_len);
 
 /* Reads the EVT3 words of a recording. Refused at a word, in this order: 4, 3, 7, 5, 6, 2. */
 fry_reading fry_read_evt3(const uint8_t *bytes, size_t bytes_len, uint32_t width, uint32_t height, uint32_t *rows, size_t rows_len);
 
-/* Writes the EVT2 words of rows, four bytes each, from out[0] on, and answers how many they are. What follows them is not
- * touched. rows_len counts numbers, ten a row; kinds 1, 2 and 3 are written.
+/* Writes the EVT2 words of rows, four bytes each, from out[0] on, and answers how many they are: seven a row at most. What
+ * follows them is not touched. rows_len counts numbers, ten a row. Kinds 1, 2 and 3 are written, x and y below 2,048, and no
+ * row may be earlier than the one before it.
  * Refused, in this order, and then nothing is touched: 13, row by row 12 and then 5, and 2 where out is too short. */
 fry_writing fry_write_evt2(const uint32_t *rows, size_t rows_len, uint8_t *out, size_t out_len);
 

@@ -8,12 +8,12 @@ use Rattle.rows.specs.Rules.{goodRow}
 use Rattle.rows.proofs.GoodRows.{pixel-good, trigger-good, counts-good, packet-good}
 use Rattle.words.specs.declared.picture.Picture.{Picture}
 use Rattle.words.specs.Fields.{field}
-use Rattle.words.specs.Machine.{gives, onto, Keeps}
+use Rattle.words.specs.Machine.{onto, Keeps}
 use Rattle.words.specs.Picture.{inPicture}
 use Rattle.words.proofs.Kept.{field-small}
 use Rattle.words.proofs.RowsGiven.{Good, if-good, Fine, onto-fine, refused-fine, fine-keeps}
 use Rattle.evt2.specs.declared.kind.Kind.{Kind}
-use Rattle.evt2.specs.declared.kind.Kind.the-variants.{Cd, TimeHigh, ExtTrigger, Imu, Others, Continued, Reserved, Inside}
+use Rattle.evt2.specs.declared.kind.Kind.the-variants.{Cd, TimeHigh, ExtTrigger, ImuEvt, Others, Continued, Reserved, Inside}
 use Rattle.evt2.specs.declared.state.State.{State}
 use Rattle.evt2.specs.State.{fresh, begun}
 use Rattle.evt2.specs.Words.{kindIn, timeAt, pixelOf, goesBack, triggerOf, imuBegun, packetBegun, countOf, countsOf, packetOf, groupRow, insideOf, givenAs, nextAs, step}
@@ -68,7 +68,7 @@ module _ (s : State) (h : Limits s) where
   kind-fine Cd picture place w = onto-fine Limits (pixelOf picture s w) s h (cd-good picture w)
   kind-fine TimeHigh picture place w = refused-fine Limits refusal.BadTime _ (goesBack s w) (λ e. record { high = field-small 0 28 w })
   kind-fine ExtTrigger picture place w = onto-fine Limits (triggerOf s w) s h (ext-trigger-good w)
-  kind-fine Imu picture place w = (begun-limits (s .known) (begun s true 5 place w) refl, tt)
+  kind-fine ImuEvt picture place w = (begun-limits (s .known) (begun s true 5 place w) refl, tt)
   kind-fine Others picture place w = (begun-limits (eqb (field 0 16 w) 0xFE) (begun s false 4 place w) refl, tt)
   kind-fine Continued picture place w = (h, tt)
   kind-fine Reserved picture place w = tt

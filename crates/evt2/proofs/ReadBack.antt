@@ -23,7 +23,7 @@ use Rattle.evt2.specs.declared.state.State.{State}
 use Rattle.evt2.specs.State.{withHigh, begun, further}
 use Rattle.evt2.specs.Words.{countsOf, groupRow}
 use Rattle.evt2.specs.Reader.{machine}
-use Rattle.evt2.specs.Spelling.{writable, writableAs, lowTimed, eventAs, eventWords, clockWords, wordsFrom}
+use Rattle.evt2.specs.Spelling.{writable, writableAs, lowTimed, countWord, eventAs, eventWords, clockWords, wordsFrom}
 use Rattle.evt2.proofs.SpelledSteps.{widest, time-back, count-back, clock-step, pixel-step, trigger-step, imu-step, more-step, last-step}
 
 -- a reader outside a group whose clock shows a high part, if one was told
@@ -131,10 +131,10 @@ module _ (r : Row) (good : goodRow r ≡ true) (can : writable r ≡ true) (narr
 
     -- the words of an IMU reading, and the states between them
     abbrev first : ℕ
-    first = typed 28 13 (lowTimed r (r .a * 2))
+    first = countWord 13 r (r .a)
 
     abbrev further-word : ℕ → ℕ
-    further-word count = typed 28 15 (lowTimed r (count * 2))
+    further-word count = countWord 15 r count
 
     abbrev s₁ : State
     s₁ = begun s true 5 at first

@@ -1,22 +1,27 @@
 -- What was written and read back, of the contracts of the writer and the reader.
-use mathlib.Core.Path.{_≡_, sym, _∙_, ap, subst}
+use mathlib.Core.Path.{_≡_, sym, _∙_, ap, ap₂, subst}
 use Prim.Native.Nat.{ℕ, _*_, _%_, _≤_}
-use mathlib.Core.Bool.{true, false}
+use mathlib.Core.Bool.{Bool, true, false}
 use mathlib.Core.List.{List}
 use lib.ListN.{length, take}
 use lib.Dec.{eqb}
-use borrow.Author.Tests.{eqb-true}
+use borrow.Author.Tests.{eqb-true, eq-eqb}
 use Rattle.rows.specs.declared.fault.Fault.{Fault}
 use Rattle.rows.specs.declared.fault.Reading.{Reading}
+use Rattle.rows.specs.declared.fault.Reading.the-variants.{Finished}
 use Rattle.rows.specs.declared.fault.Writing.{Writing}
 use Rattle.rows.specs.declared.fault.Writing.the-variants.{Written, Refused}
 use Rattle.rows.specs.declared.row.Row.{Row}
 use Rattle.rows.specs.Row.{flat, over, Narrow, roomOf, rowsOf}
 use Rattle.rows.specs.Rules.{accepted, goodLength, verdictOf}
-use Rattle.rows.specs.Runs.{ReadAs, Finishes}
+use Rattle.rows.specs.Runs.{Ending, answerOf, ReadAs, Finishes}
 use Rattle.rows.proofs.GoodRows.{and-first}
 use Rattle.rows.proofs.Judged.{accepted-list}
 use Rattle.rows.proofs.Kept.{flat-of-rows}
+use Rattle.rows.proofs.Lists.{rows-of-length}
+use Rattle.words.specs.Machine.{Reached}
+use Rattle.evt2.specs.declared.state.State.{State}
+use native.Mathlib.Omega.{arith}
 use Rattle.words.specs.Writer.{WroteAs}
 use Rattle.words.proofs.Writings.{WroteWords, wrote-words, wrote-nothing}
 use Rattle.evt2.specs.Reader.{readingOf}
@@ -24,6 +29,13 @@ use Rattle.evt2.specs.RoundTrip.{CameBack}
 use Rattle.evt2.specs.Spelling.{writable, spelling}
 use Rattle.evt2.proofs.Kept.{read-back}
 use Rattle.evt2.proofs.SpelledSteps.{widest}
+use Rattle.rows.specs.declared.fault.Reading.the-variants as reading
+
+same-count : {m n : ℕ} → Finished m ≡ Finished n → m ≡ n
+same-count e = cc
+
+no-refusal : {E : Type 0} {f : Fault} {m place n : ℕ} → reading.Refused f m place ≡ Finished n → E
+no-refusal e = let z : _≡_ {A = ℕ} 0 1 = cc in absurd (omega arith)
 
 module _ (l out : List ℕ) {out′ : List ℕ} {w : Writing} (wrote : WroteAs spelling l out out′ w) where
   pub not-back : {f : Fault} {i : ℕ} → w ≡ Refused f i → (old : List ℕ) → CameBack l out old old false
@@ -34,14 +46,31 @@ module _ (l out : List ℕ) {out′ : List ℕ} {w : Writing} (wrote : WroteAs s
   unfolding goodLength
   same-numbers e = flat-of-rows l (eqb-true _ _ (and-first (eqb (length l % 10) 0) _ (accepted-list writable l e .0)))
 
-  pub came-back : {n : ℕ} → w ≡ Written n → Narrow l → {old new : List ℕ} {r : Reading} → roomOf l ≤ roomOf old
-      → ReadAs (readingOf widest (take (n * 4) out′) (roomOf old)) old new r → CameBack l out old new true
-  came-back {n} e narrow {old} {new} {r} room read =
-      let did : WroteWords spelling l out out′ n = wrote-words spelling l out wrote e in
-      let back : Finishes (readingOf widest (take (n * 4) out′) (roomOf old)) (rowsOf l) =
-      subst (λ (b : List ℕ). Finishes (readingOf widest b (roomOf old)) (rowsOf l)) (sym (did .bytes)) (read-back l narrow (did .passed) (roomOf old) room) in
-      let numbers : flat (rowsOf l) ≡ l = same-numbers (did .passed) in
-      record {
-        written = rw (did .verdict);
-        back = rw (did .verdict) (read .wrote ∙ ap (λ (rs : List Row). over (flat rs) old) (back .rows) ∙ ap (λ (k : List ℕ). over k old) numbers);
-      }
+  -- what was read of it
+  module _ {n : ℕ} (e : w ≡ Written n) (narrow : Narrow l) {old new : List ℕ} {r : Reading} (room : roomOf l ≤ roomOf old)
+      (read : ReadAs (readingOf widest (take (n * 4) out′) (roomOf old)) old new r) where
+    did : WroteWords spelling l out out′ n
+    did = wrote-words spelling l out wrote e
+
+    back : Finishes (readingOf widest (take (n * 4) out′) (roomOf old)) (rowsOf l)
+    back = subst (λ (b : List ℕ). Finishes (readingOf widest b (roomOf old)) (rowsOf l)) (sym (did .bytes)) (read-back l narrow (did .passed) (roomOf old) room)
+
+    answered : r ≡ Finished (roomOf l)
+    answered = read .answer ∙ ap₂ (λ (a : Ending (Reached State)) (rs : List Row). answerOf a (length rs)) (back .ending) (back .rows) ∙ ap Finished (rows-of-length l)
+
+    came : CameBack l out old new true
+    came =
+        record {
+          written = rw (did .verdict);
+          back =
+              rw (did .verdict)
+              (read .wrote ∙ ap (λ (rs : List Row). over (flat rs) old) (back .rows) ∙ ap (λ (k : List ℕ). over k old) (same-numbers (did .passed)));
+        }
+
+    pub came-back : {m k : ℕ} → r ≡ Finished m → k ≡ roomOf l → CameBack l out old new (eqb m k)
+    came-back {m} {k} f g =
+        let same : m ≡ k = same-count (sym f ∙ answered) ∙ sym g in
+        subst (λ (t : Bool). CameBack l out old new t) (sym (eq-eqb m k same)) came
+
+    pub never-refused : {f : Fault} {m place : ℕ} {b : Bool} → r ≡ reading.Refused f m place → CameBack l out old new b
+    never-refused f = no-refusal (sym f ∙ answered)

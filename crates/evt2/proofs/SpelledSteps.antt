@@ -18,7 +18,7 @@ use Rattle.evt2.specs.declared.kind.Kind.the-variants.{Cd, Inside}
 use Rattle.evt2.specs.declared.state.State.{State}
 use Rattle.evt2.specs.State.{pending, withHigh, begun, further}
 use Rattle.evt2.specs.Words.{kindAt, kindIn, timeAt, pixelOf, goesBack, triggerOf, imuBegun, countOf, groupRow, insideOf, givenAs, nextAs, step}
-use Rattle.evt2.specs.Spelling.{writable, lowTimed}
+use Rattle.evt2.specs.Spelling.{lowTimed, countWord}
 use Rattle.evt2.specs.Words as words
 
 -- the picture that every writable pixel lies in
@@ -52,7 +52,7 @@ module _ (r : Row) (top below : ℕ) (small : below < 4194304) where
   unfolding timeAt
   time-back s e = rw (e, low-time) (omega arith)
 
-pub count-back : (r : Row) (top count : ℕ) → count < 65536 → countOf (typed 28 top (lowTimed r (count * 2))) ≡ count
+pub count-back : (r : Row) (top count : ℕ) → count < 65536 → countOf (countWord top r count) ≡ count
 count-back r top count h = below-time r top (count * 2) (omega arith) 1 16 (omega arith) ∙ omega arith
 
 -- what a word of a kind does

@@ -9,11 +9,12 @@ use Rattle.rows.specs.Rules.{Verdict, accepted, refused}
 use Rattle.words.specs.Writer.{writingVerdict}
 use Rattle.evt2.specs.Spelling.{spelling}
 
+-- whether a verdict refuses nothing
 abbrev pub passes : Verdict → Bool
 passes accepted = true
 passes (refused f i) = false
 
--- `l` was written into `out` if it passes, and then the buffer that was read into begins with `l` itself
+-- `l` was written into `out` if it passes; then the reading finished with as many rows, and the buffer that was read into begins with `l` itself
 pub record CameBack (l out old new : List ℕ) (r : Bool) : Type 0 where
   pub written : r ≡ passes (writingVerdict spelling l (length out))
   pub back : new ≡ cond (passes (writingVerdict spelling l (length out))) (over l old) old

@@ -21,6 +21,7 @@ writableAs UsbPacket r = false
 writableAs Special r = false
 writableAs Other r = false
 
+-- by the kind that its first number names
 unfoldable pub writable : Row → Bool
 writable r = writableAs (kindOf (r .kind)) r
 
@@ -28,17 +29,22 @@ writable r = writableAs (kindOf (r .kind)) r
 abbrev pub lowTimed : Row → ℕ → ℕ
 lowTimed r below = timeOf r % 64 * 4194304 + below
 
--- the words of an event; unused bits are 0. A pixel's type is its polarity, and CONTINUED repeat the low time
+-- a word of an IMU reading: a count in 16..1
+abbrev pub countWord : ℕ → Row → ℕ → ℕ
+countWord top r count = typed 28 top (lowTimed r (count * 2))
+
+-- the words of an event, 0 in every bit that the layout leaves free. A pixel's type is its polarity; each CONTINUED has the low time again
 unfoldable pub eventAs : Kind → Row → List ℕ
 eventAs Pixel r = typed 28 (r .c) (lowTimed r (r .a * 2048 + r .b)) ∷ []
 eventAs Trigger r = typed 28 10 (lowTimed r (r .a * 256 + r .b)) ∷ []
 eventAs ImuCounts r =
-    typed 28 13 (lowTimed r (r .a * 2)) ∷ typed 28 15 (lowTimed r (r .b * 2)) ∷ typed 28 15 (lowTimed r (r .c * 2)) ∷ typed 28 15 (lowTimed r (r .d * 2)) ∷ typed 28 15 (lowTimed r (r .e * 2)) ∷ typed 28 15 (lowTimed r (r .f * 2)) ∷ []
+    countWord 13 r (r .a) ∷ countWord 15 r (r .b) ∷ countWord 15 r (r .c) ∷ countWord 15 r (r .d) ∷ countWord 15 r (r .e) ∷ countWord 15 r (r .f) ∷ []
 eventAs ImuSingles r = []
 eventAs UsbPacket r = []
 eventAs Special r = []
 eventAs Other r = []
 
+-- by the kind that its first number names
 abbrev pub eventWords : Row → List ℕ
 eventWords r = eventAs (kindOf (r .kind)) r
 

@@ -11,7 +11,7 @@ use Rattle.words.specs.Fields.{field}
 use Rattle.words.specs.Machine.{Outcome, Given, gives, refuses, refusedIf, onto}
 use Rattle.words.specs.Picture.{inPicture}
 use Rattle.evt2.specs.declared.kind.Kind.{Kind}
-use Rattle.evt2.specs.declared.kind.Kind.the-variants.{Cd, TimeHigh, ExtTrigger, Imu, Others, Continued, Reserved, Inside}
+use Rattle.evt2.specs.declared.kind.Kind.the-variants.{Cd, TimeHigh, ExtTrigger, ImuEvt, Others, Continued, Reserved, Inside}
 use Rattle.evt2.specs.declared.state.State.{State}
 use Rattle.evt2.specs.State.{pending, withHigh, begun, further}
 
@@ -22,7 +22,7 @@ kindAt top =
     (cond (eqb top 1) Cd
     (cond (eqb top 8) TimeHigh
     (cond (eqb top 10) ExtTrigger
-    (cond (eqb top 13) Imu
+    (cond (eqb top 13) ImuEvt
     (cond (eqb top 14) Others
     (cond (eqb top 15) Continued Reserved))))))
 
@@ -94,7 +94,7 @@ abbrev pub givenAs : Kind → Picture → State → ℕ → Given
 givenAs Cd p s w = pixelOf p s w
 givenAs TimeHigh p s w = refusedIf (goesBack s w) refusal.BadTime
 givenAs ExtTrigger p s w = triggerOf s w
-givenAs Imu p s w = gives []
+givenAs ImuEvt p s w = gives []
 givenAs Others p s w = gives []
 -- passed over
 givenAs Continued p s w = gives []
@@ -104,7 +104,7 @@ givenAs Inside p s w = insideOf s w
 -- the state that a word of each kind at a place leads to
 abbrev pub nextAs : Kind → State → ℕ → ℕ → State
 nextAs TimeHigh s place w = withHigh s (field 0 28 w)
-nextAs Imu s place w = imuBegun s place w
+nextAs ImuEvt s place w = imuBegun s place w
 nextAs Others s place w = packetBegun s place w
 nextAs Inside s place w = further s w
 nextAs Cd s place w = s

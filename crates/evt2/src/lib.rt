@@ -1,4 +1,4 @@
-// EVT2: words of four bytes, an event each. Source document 002 has the layout, 000 that of IMU readings and USB packets;
+// EVT2: words of four bytes; a pixel and a trigger take one each, an IMU reading six, a USB packet five. Source document 002 has the layout, 000 that of IMU readings and USB packets;
 // 01, "EVT2 words" and "Spelling", the rules.
 //
 //     read(bytes, width, height, rows)     the rows of a stream of words, into a lent slice

@@ -69,7 +69,7 @@ fn read_words(bytes: &[u8], picture: Picture, rows: &mut [u32]) -> Reading
                                 state = state.time_high(w);
                                 continue;
                             }
-                            Kind::Imu => {
+                            Kind::ImuEvt => {
                                 state = state.imu_evt(place, w);
                                 continue;
                             }

@@ -4,9 +4,11 @@ ghost use Rattle.rows.specs.Row.{roomOf};
 ghost use Rattle.evt2.specs.RoundTrip.{CameBack};
 use crate::reader::read;
 use crate::writer::write;
+use rows::Reading;
 use rows::Writing;
 
-// Writes rows, and where they are not refused reads them back into a slice with room for as many.
+// Writes rows, and where they are not refused reads them back into a slice with room for as many. Answers whether they were written
+// and the reading finished with as many.
 fn round_trip(rows: &[u32], out: &mut [u8], back: &mut [u32]) -> bool
     requires { ⌜ roomOf (now rows) ≤ roomOf (now back) ⌝ }
     ensures { λ r. ⌜ CameBack (now (rows .entry)) (now (out .entry)) (now (back .entry)) (now (back .exit)) r ⌝ }
@@ -15,8 +17,15 @@ fn round_trip(rows: &[u32], out: &mut [u8], back: &mut [u32]) -> bool
     match written {
         Writing::Refused { fault: _, row: _ } => false,
         Writing::Written { count } => {
-            read(&out[..count * 4], 2048, 2048, back);
-            true
+            let reading = read(&out[..count * 4], 2048, 2048, back);
+            match reading {
+                Reading::Finished { rows: n } => n == rows::room(rows),
+                Reading::Refused {
+                    fault: _,
+                    rows: _,
+                    place: _,
+                } => false,
+            }
         }
     }
 }

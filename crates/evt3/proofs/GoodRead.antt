@@ -10,7 +10,7 @@ use Rattle.rows.specs.Rules.{AllGood}
 use Rattle.rows.proofs.GoodRows.{pixel-good, trigger-good}
 use Rattle.words.specs.declared.picture.Picture.{Picture}
 use Rattle.words.specs.Fields.{field}
-use Rattle.words.specs.Machine.{gives, Keeps}
+use Rattle.words.specs.Machine.{Keeps}
 use Rattle.words.proofs.RowsGiven.{Good, if-good, Fine, onto-fine, refused-fine, fine-keeps}
 use Rattle.evt3.specs.declared.kind.Kind.{Kind}
 use Rattle.evt3.specs.declared.kind.Kind.the-variants.{AddrY, AddrX, VectBaseX, Vect12, Vect8, TimeLow, Continued4, TimeHigh, ExtTrigger, Others, Continued12, Reserved}

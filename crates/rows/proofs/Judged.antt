@@ -29,7 +29,7 @@ pub judged-own : (r : Row) (writable : Bool) (last : ℕ) {k : Kind} → kindOf 
 unfolding judgedAs judgedOf goodRow
 judged-own r writable last e = ap (λ (k : Kind). judgedBy (goodAs k r) writable r last) (sym e)
 
--- a row that no format can write
+-- a row that the format cannot write
 pub judged-unwritable : (r : Row) (last : ℕ) → Refused BadRow ≡ judgedOf false r last
 unfolding judgedOf
 judged-unwritable r last = go (goodRow r)

@@ -175,8 +175,9 @@ pub fn good_length(rows: &[u32]) -> bool
     rows.len() / 10 <= 16777216
 }
 
-// One row of a list to be written, by the rules of a kind, which is the row's own, after a row of the time `last`: 12 where it
-// is bad or the format cannot write it, then 5 where its time is below `last`. A format that has matched on the kind says which.
+// One row of a list to be written, by the rules of the kind that the caller names, after a row of the time `last`: 12 where it
+// breaks them or the format cannot write it, then 5 where its time is below `last`. A format that has matched on the row's kind
+// names it, and the answer is then `judgedOf`.
 pub fn judge(kind: Kind, row: Row, writable: bool, last: u64) -> Judged
     ensures { λ r. ⌜ r ≡ judgedAs kind writable row last ⌝ }
 {

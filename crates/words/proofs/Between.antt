@@ -20,7 +20,7 @@ use Rattle.words.specs.declared.Next.{Next}
 use Rattle.words.specs.declared.Next.the-variants.{Word, Part, End}
 use Rattle.words.specs.Words.{Words, word, firstOf, wordsOf, nextAt}
 use Rattle.words.specs.declared.Gave.{Gave}
-use Rattle.words.specs.Machine.{next, fault, Given, gives, refuses, onto, Machine, run, closed, reading, readFrom}
+use Rattle.words.specs.Machine.{next, fault, Given, refuses, onto, Machine, run, closed, reading, readFrom}
 use Rattle.words.specs.Written.{GaveAs}
 use Rattle.words.proofs.Cut.{end-found, part-found, word-found, word-within, part-next}
 use Rattle.words.proofs.Wrote.{WroteAll, gave-all, gave-fault, WroteNone, gave-nothing}

@@ -35,7 +35,7 @@ abbrev pub thenJudged : Verdict → Verdict → Verdict
 thenJudged accepted v = v
 thenJudged (refused f i) v = refused f i
 
--- 13, then 12 or 5 row by row, then 2
+-- the list's length is judged first (13), its rows one after the other (12, 5), and the room for its words last (2)
 unfoldable pub writingVerdict : Spelling → List ℕ → ℕ → Verdict
 writingVerdict s l bytes = thenJudged (verdictOf (s .writable) l) (roomFor s (length (spelled s l)) bytes)
 

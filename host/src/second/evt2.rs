@@ -1,7 +1,7 @@
 //! The reader and the writer of EVT2 words. The reader looks ahead: where a group begins, it takes all of its words at once, so that no
 //! group is ever half read.
 use super::rows::{row, time_of, Row};
-use super::words::{self, refusal_before_words, Reading, Spelling, Writing};
+use super::words::{self, refusal_before_words, Format, Reading, Writing};
 
 const OFF: u32 = 0;
 const ON: u32 = 1;
@@ -122,10 +122,10 @@ fn usb_packet(group: &[Word]) -> Option<Row> {
 
 /// Writes a list of numbers into a buffer of so many bytes.
 pub fn write(numbers: &[u32], lent: usize) -> Writing {
-    words::write(&Spelling { size: 4, writable, words: words_of }, numbers, lent)
+    words::write(&Format { bytes_a_word: 4, can_write, words_of }, numbers, lent)
 }
 
-fn writable(row: &Row) -> bool {
+fn can_write(row: &Row) -> bool {
     match row[0] {
         1 => row[3] < words::SIDE && row[4] < words::SIDE,
         2 | 3 => true,

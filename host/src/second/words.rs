@@ -48,25 +48,25 @@ pub struct Writing {
 }
 
 /// A format that lists are written in.
-pub struct Spelling {
+pub struct Format {
     /// How many bytes a word takes.
-    pub size: usize,
+    pub bytes_a_word: usize,
     /// Which good rows it has words for.
-    pub writable: fn(&Row) -> bool,
+    pub can_write: fn(&Row) -> bool,
     /// The words of rows that can be written.
-    pub words: fn(&[Row]) -> Vec<u32>,
+    pub words_of: fn(&[Row]) -> Vec<u32>,
 }
 
 /// Writes a list of numbers into a buffer of so many bytes.
-pub fn write(spelling: &Spelling, numbers: &[u32], lent: usize) -> Writing {
+pub fn write(format: &Format, numbers: &[u32], lent: usize) -> Writing {
     let refused = |refusal, count| Writing { refusal, count, bytes: vec![] };
-    if let Some((refusal, index)) = first_fault(numbers, spelling.writable) {
+    if let Some((refusal, index)) = first_fault(numbers, format.can_write) {
         return refused(refusal, index);
     }
-    let words = (spelling.words)(numbers.as_chunks().0);
-    if lent < spelling.size * words.len() {
+    let words = (format.words_of)(numbers.as_chunks().0);
+    if lent < format.bytes_a_word * words.len() {
         return refused(2, 0);
     }
-    let bytes = words.iter().flat_map(|word| word.to_le_bytes().into_iter().take(spelling.size)).collect();
+    let bytes = words.iter().flat_map(|word| word.to_le_bytes().into_iter().take(format.bytes_a_word)).collect();
     Writing { refusal: 0, count: words.len(), bytes }
 }

@@ -4,7 +4,7 @@ use Rattle.evt2.specs.Reader.{machine}
 use Rattle.evt2.specs.Words.{nextAs}
 use Rattle.evt2.specs.State.{fresh}
 use Rattle.evt2.specs.declared.state.State.{State}
-use Rattle.evt2.specs.declared.kind.Kind.the-variants.{TimeHigh, Imu, Others, Inside}
+use Rattle.evt2.specs.declared.kind.Kind.the-variants.{TimeHigh, ImuEvt, Others, Inside}
 use Rattle.words.proofs.Wrote.{gave-length}
 use Rattle.words.proofs.Between.{Between, between-start, between-length, between-room, found, ends-whole, ends-pending, ends-part, word-in, goes-on-gave, ends-gave-full, ends-gave}
 use Rattle.words.specs.Words.{nextAt}
@@ -178,7 +178,7 @@ loop-less-2 : tie.Need-loop-less-2 Inv-loop μ-loop
 loop-less-2 c = omega (arith, word-fits (c .before .before .before .before .before .before .before .before))
 
 loop-again-2 : tie.Need-loop-again-2 Inv-loop μ-loop
-loop-again-2 c = after-word (c .before .before .before .before .before .before .before .before) (leads _ _ _ Imu (c .before .enum-told5 .given .1) (c .imu-evt .ensures)) (c .before .before .before .before .gave2 .given .1)
+loop-again-2 c = after-word (c .before .before .before .before .before .before .before .before) (leads _ _ _ ImuEvt (c .before .enum-told5 .given .1) (c .imu-evt .ensures)) (c .before .before .before .before .gave2 .given .1)
 
 enum-told-6 : tie.Need-enum-told-6 Inv-loop μ-loop
 enum-told-6 c = search needs

@@ -1,9 +1,8 @@
 -- `evt2::round_trip::round_trip` meets its contract.
--- `evt2::round_trip::round_trip` meets its contract.
-use lib.Seq.{length-take-le}
-use Rattle.evt2.proofs.Returned.{not-back, came-back}
+use Rattle.evt2.proofs.Returned.{not-back, came-back, never-refused}
 use Rattle.evt2.specs.Spelling.{spelling}
 use Rattle.words.proofs.Writings.{wrote-words}
+use lib.Seq.{length-take-le}
 use mathlib.Core.Path.{sym}
 use native.Mathlib.Omega.{arith}
 use borrow.Author.Needs.{needs}
@@ -37,6 +36,15 @@ slice-aggregate-read c =
 read-requires : tie.Need-read-requires
 read-requires c κs = search needs
 
+enum-known-reading : tie.Need-enum-known-reading
+enum-known-reading c = search needs
+
+room-requires : tie.Need-room-requires
+room-requires c κs = search needs
+
+enum-told-2 : tie.Need-enum-told-2
+enum-told-2 c = search needs
+
 same-length : tie.Need-same-length
 same-length c = search needs
 
@@ -50,7 +58,16 @@ same-length-3 : tie.Need-same-length-3
 same-length-3 c = search needs
 
 returns-2 : tie.Need-returns-2
-returns-2 c = came-back _ _ (c .before .before .before .before .before .before .before .before .before .before .write .ensures) (c .before .before .before .before .before .before .written .given .1) (λ i. c .before .before .before .before .before .before .before .before .before .before .before .before .before .before .shared-slice-known .given i .fits) (c .before .before .before .before .before .before .before .before .before .before .before .before .before .before .before .pre) (c .before .before .read .ensures)
+returns-2 c = came-back _ _ (c .before .before .before .before .before .before .before .before .before .before .before .before .before .before .write .ensures) (c .before .before .before .before .before .before .before .before .before .before .written .given .1) (λ i. c .before .before .before .before .before .before .before .before .before .before .before .before .before .before .before .before .before .before .shared-slice-known .given i .fits) (c .before .before .before .before .before .before .before .before .before .before .before .before .before .before .before .before .before .before .before .pre) (c .before .before .before .before .before .before .read .ensures) (c .before .before .reading .given .1) (c .room .ensures)
+
+same-length-4 : tie.Need-same-length-4
+same-length-4 c = search needs
+
+same-length-5 : tie.Need-same-length-5
+same-length-5 c = search needs
+
+returns-3 : tie.Need-returns-3
+returns-3 c = never-refused _ _ (c .before .before .before .before .before .before .before .before .before .before .before .before .write .ensures) (c .before .before .before .before .before .before .before .before .written .given .1) (λ i. c .before .before .before .before .before .before .before .before .before .before .before .before .before .before .before .before .shared-slice-known .given i .fits) (c .before .before .before .before .before .before .before .before .before .before .before .before .before .before .before .before .before .pre) (c .before .before .before .before .read .ensures) (c .enum-told2 .given .1)
 
 pub round-trip-spec : {M : Type 1} → statement M
 round-trip-spec =
@@ -63,8 +80,14 @@ round-trip-spec =
     slice-reshare-prefix-read
     slice-aggregate-read
     read-requires
+    enum-known-reading
+    room-requires
+    enum-told-2
     same-length
     returns
     same-length-2
     same-length-3
-    returns-2)
+    returns-2
+    same-length-4
+    same-length-5
+    returns-3)

@@ -7,18 +7,19 @@ use std::time::Instant;
 
 const PICTURE: Picture = (1_280, 720);
 const ROUNDS: usize = 15;
-const STREAMS: [(&str, Measure); 8] = [
+const STREAMS: [(&str, Measure); 9] = [
     ("EVT3, single pixels", |events| reading_evt3(evt3::Scene::Pixels, events)),
     ("EVT3, dense vectors", |events| reading_evt3(evt3::Scene::Dense, events)),
     ("EVT3, sparse vectors", |events| reading_evt3(evt3::Scene::Sparse, events)),
     ("EVT3, mixed", |events| reading_evt3(evt3::Scene::Mixed, events)),
     ("EVT2, single pixels", |events| reading_evt2(evt2::Scene::Pixels, events)),
     ("EVT2, mixed with IMU", |events| reading_evt2(evt2::Scene::Mixed, events)),
+    ("EVT2, mostly IMU", |events| reading_evt2(evt2::Scene::Motion, events)),
     ("EVT2 written, pixels", |events| writing_evt2(evt2::Scene::Pixels, events)),
     ("EVT2 written, mixed", |events| writing_evt2(evt2::Scene::Mixed, events)),
 ];
 /// Of these it is also shown what a row costs as they grow.
-const GROWING: [usize; 3] = [3, 5, 7];
+const GROWING: [usize; 3] = [3, 5, 8];
 
 /// Times a stream of at least so many events.
 type Measure = fn(usize) -> Measured;

@@ -53,6 +53,11 @@ fry_reading fry_read_evt3(const uint8_t *bytes, size_t bytes_len, uint32_t width
  * Refused, in this order, and then nothing is touched: 13, row by row 12 and then 5, and 2 where out is too short. */
 fry_writing fry_write_evt2(const uint32_t *rows, size_t rows_len, uint8_t *out, size_t out_len);
 
+/* Writes the EVT3 words of rows, two bytes each. Always enough are four words a row, and two more for each wrap of the clock
+ * (16,777,216 microseconds) up to the last row's time. Kinds 1 and 2 are written, channels below 16. All else, refusals and
+ * their order among it, is as in fry_write_evt2. */
+fry_writing fry_write_evt3(const uint32_t *rows, size_t rows_len, uint8_t *out, size_t out_len);
+
 #ifdef __cplusplus
 }
 #endif

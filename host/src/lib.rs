@@ -8,7 +8,7 @@ use std::fmt;
 
 mod sys;
 
-/// Readers and a writer made by hand for speed, which the benchmark times the library against. No part of the library uses them.
+/// Readers and writers made by hand for speed, which the benchmark times the library against. No part of the library uses them.
 #[doc(hidden)]
 pub mod fast;
 
@@ -117,6 +117,12 @@ pub fn write_evt2(rows: &[u32], out: &mut [u8]) -> Result<usize, RowFault> {
     writing(evt2_written(rows, out))
 }
 
+/// Writes a list of rows as EVT3 words of two bytes: at most four for a row, and two more for each wrap of the clock (16,777,216
+/// microseconds) up to the last row's time. All else is as in [`write_evt2`].
+pub fn write_evt3(rows: &[u32], out: &mut [u8]) -> Result<usize, RowFault> {
+    writing(evt3_written(rows, out))
+}
+
 /// A reader's three numbers, given a Rust type.
 fn reading((refusal, rows, place): (u64, u64, u64)) -> Result<usize, Fault> {
     let (rows, place) = (rows as usize, place as usize);
@@ -155,8 +161,18 @@ fn reading_numbers(reader: sys::WordReader, bytes: &[u8], width: u32, height: u3
 /// All that `fry_write_evt2` answers: 0 and the number of words, or the refusal and the index of a row.
 #[doc(hidden)]
 pub fn evt2_written(rows: &[u32], out: &mut [u8]) -> (u64, u64) {
+    writing_numbers(sys::fry_write_evt2, rows, out)
+}
+
+/// All that `fry_write_evt3` answers, as `evt2_written` has it.
+#[doc(hidden)]
+pub fn evt3_written(rows: &[u32], out: &mut [u8]) -> (u64, u64) {
+    writing_numbers(sys::fry_write_evt3, rows, out)
+}
+
+fn writing_numbers(writer: sys::WordWriter, rows: &[u32], out: &mut [u8]) -> (u64, u64) {
     // SAFETY: as in `reading_numbers`.
-    let writing = unsafe { sys::fry_write_evt2(rows.as_ptr(), rows.len(), out.as_mut_ptr(), out.len()) };
+    let writing = unsafe { writer(rows.as_ptr(), rows.len(), out.as_mut_ptr(), out.len()) };
     (writing.refusal, writing.count)
 }
 

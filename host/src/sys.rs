@@ -25,9 +25,13 @@ pub struct FryEvent {
 /// What every reader of words is: bytes and their number, width, height, rows and how many numbers they have.
 pub type WordReader = unsafe extern "C" fn(*const u8, usize, u32, u32, *mut u32, usize) -> FryReading;
 
+/// What every writer of words is: rows and how many numbers they have, the buffer and its number of bytes.
+pub type WordWriter = unsafe extern "C" fn(*const u32, usize, *mut u8, usize) -> FryWriting;
+
 extern "C" {
     pub fn fry_event_of(row: *const u32, len: usize) -> FryEvent;
     pub fn fry_read_evt2(bytes: *const u8, bytes_len: usize, width: u32, height: u32, rows: *mut u32, rows_len: usize) -> FryReading;
     pub fn fry_write_evt2(rows: *const u32, rows_len: usize, out: *mut u8, out_len: usize) -> FryWriting;
     pub fn fry_read_evt3(bytes: *const u8, bytes_len: usize, width: u32, height: u32, rows: *mut u32, rows_len: usize) -> FryReading;
+    pub fn fry_write_evt3(rows: *const u32, rows_len: usize, out: *mut u8, out_len: usize) -> FryWriting;
 }

@@ -4,7 +4,7 @@
 mod cases;
 
 use cases::{check, into_buffer};
-use fryskelom::samples::evt3::bytes_of;
+use fryskelom::samples::evt3::{bytes_of, ALL_WRAPS};
 use fryskelom::samples::{pixel, trigger};
 use fryskelom::{fast, read_evt3, second};
 
@@ -14,17 +14,6 @@ const PLAIN: Case = Case::PLAIN;
 
 /// Time 0 and line 3.
 const TIME_AND_Y: &[u16] = &[0x8000, 0x6000, 0x0003];
-
-/// The high part falls 1,023 times, which is as often as it may.
-const ALL_WRAPS: &[u16] = &{
-    let mut words = [0x8fff; 2 * 1_023];
-    let mut i = 1;
-    while i < words.len() {
-        words[i] = 0x8000;
-        i += 2;
-    }
-    words
-};
 
 const CASES: &[Case] = &[
     // the end of the input

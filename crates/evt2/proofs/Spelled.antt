@@ -19,6 +19,7 @@ use Rattle.rows.specs.declared.rules.Kind.the-variants.{Pixel, Trigger, ImuCoun
 use Rattle.rows.specs.Row.{timeOf, roomOf, rowFrom, rowsFrom, rowsOf}
 use Rattle.rows.specs.Rules.{kindOf, judgedAs, judgedOf, verdictFrom}
 use Rattle.rows.proofs.Judged.{Judging, judging-start, judging-done, judging-next, judging-refused, judged-own, judged-unwritable, judged-is-time}
+use Rattle.rows.proofs.Lists.{rest, rest-none, rest-more, rest-all}
 use Rattle.rows.proofs.rules.Kind.{the-type}
 use Rattle.words.specs.Fields.{typed}
 use Rattle.words.specs.Words.{bytesOfAll}
@@ -123,22 +124,6 @@ pub words-short : (told : Bool) (old : ℕ) (rs : List Row) → length (wordsFro
 words-short told old [] = omega (arith, none-length told old)
 words-short told old (r ∷ rs) =
     omega (arith, more-length told old r rs, clock-short told old (timeOf r / 64), event-short (kindOf (r .kind)) r, words-short true (timeOf r / 64) rs)
-
--- the rows of a list from row i on
-abbrev rest : List ℕ → ℕ → List Row
-rest l i = rowsFrom l i (roomOf l - i)
-
-rest-none : (l : List ℕ) (i : ℕ) → roomOf l ≤ i → rest l i ≡ []
-unfolding rowsFrom
-rest-none l i h = let e : roomOf l - i ≡ 0 = omega arith in ap (rowsFrom l i) e
-
-rest-more : (l : List ℕ) (i : ℕ) → i < roomOf l → rest l i ≡ rowFrom l (i * 10) ∷ rest l (i + 1)
-unfolding rowsFrom
-rest-more l i h = let e : roomOf l - i ≡ suc (roomOf l - suc i) = omega arith in rw (add-one i) (ap (rowsFrom l i) e)
-
-rest-all : (l : List ℕ) → rowsOf l ≡ rest l 0
-unfolding rowsOf
-rest-all l = let e : roomOf l ≡ roomOf l - 0 = omega arith in ap (rowsFrom l 0) e
 
 -- the loop that judges rows and counts their words: i rows passed, the last at the time `last`
 pub record Counting (l : List ℕ) (words : ℕ) (told : Bool) (last i : ℕ) : Type 0 where

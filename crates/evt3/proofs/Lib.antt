@@ -1,7 +1,20 @@
 -- Lemmas, and the laws proved (Kept).
+pub mod Chosen
+pub mod ColumnCounts
 pub mod Columns
+pub mod ColumnsBack
 pub mod Counting
 pub mod GoodRead
+pub mod Groups
+pub mod GroupsCut
 pub mod Kept
+pub mod Marks
+pub mod ReadBack
+pub mod RowRuns
+pub mod SpelledLength
+pub mod SpelledSteps
 pub mod Steps
 pub mod Storing
+pub mod TimeBack
+pub mod Walked
+pub mod WritableRows

@@ -1,6 +1,8 @@
 -- Definitions that the contracts cite, and the laws.
 pub mod Promises
 pub mod Reader
+pub mod Spelling
 pub mod State
 pub mod Vectors
+pub mod Walk
 pub mod Words

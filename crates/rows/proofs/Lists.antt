@@ -1,6 +1,7 @@
 -- The rows of a list of numbers, and the numbers of a list of rows.
 use mathlib.Core.Path.{_≡_, refl, sym, _∙_, ap, ap₂}
 use Prim.Native.Nat.{ℕ, zero, suc, _+_, _-_, _*_, _/_, _%_, _≤_, _<_}
+use native.Mathlib.Numerals.{add-one}
 use native.Mathlib.Omega.{arith}
 use native.Mathlib.Nat.{add-assoc}
 use mathlib.Core.Bool.{Bool, true, false, cond}
@@ -10,6 +11,7 @@ use lib.Dec.{ltb}
 use lib.Seq.{drop-cons, drop-drop, take-add, take-all, getD-append-add}
 use borrow.Author.Tests.{ltb-true, ltb-false}
 use Rattle.rows.specs.declared.row.Row.{Row}
+use Rattle.rows.specs.declared.row.RowAt.{RowAt}
 use Rattle.rows.specs.declared.row.RowAt.the-variants.{Found, Nothing}
 use Rattle.rows.specs.Row.{numbers, flat, Narrow, roomOf, rowFrom, rowAt, rowsFrom, rowsOf}
 use Rattle.rows.proofs.Stored.{flat-length}
@@ -107,6 +109,22 @@ pub all-narrow : (l : List ℕ) → Narrow l → AllNarrow (rowsOf l)
 unfolding rowsOf
 all-narrow l h = narrow-rows l h (roomOf l) 0
 
+-- the rows of a list from row i on
+abbrev pub rest : List ℕ → ℕ → List Row
+rest l i = rowsFrom l i (roomOf l - i)
+
+pub rest-none : (l : List ℕ) (i : ℕ) → roomOf l ≤ i → rest l i ≡ []
+unfolding rowsFrom
+rest-none l i h = let e : roomOf l - i ≡ 0 = omega arith in ap (rowsFrom l i) e
+
+pub rest-more : (l : List ℕ) (i : ℕ) → i < roomOf l → rest l i ≡ rowFrom l (i * 10) ∷ rest l (i + 1)
+unfolding rowsFrom
+rest-more l i h = let e : roomOf l - i ≡ suc (roomOf l - suc i) = omega arith in rw (add-one i) (ap (rowsFrom l i) e)
+
+pub rest-all : (l : List ℕ) → rowsOf l ≡ rest l 0
+unfolding rowsOf
+rest-all l = let e : roomOf l ≡ roomOf l - 0 = omega arith in ap (rowsFrom l 0) e
+
 -- what `rows::get` found of a list
 module _ (l : List ℕ) (i : ℕ) where
   pub row-found : {r : Row} → Found r ≡ rowAt l i → (i < roomOf l) × (r ≡ rowFrom l (i * 10))
@@ -122,3 +140,15 @@ module _ (l : List ℕ) (i : ℕ) where
       go : (t : Bool) → ltb i (roomOf l) ≡ t → Nothing ≡ cond t (Found (rowFrom l (i * 10))) Nothing → roomOf l ≤ i
       go true f g = let z : _≡_ {A = ℕ} 0 1 = cc in absurd (omega arith)
       go false f g = ltb-false _ _ f
+
+-- the first of some rows, and of those from row i on
+abbrev pub firstRow : List Row → RowAt
+firstRow [] = Nothing
+firstRow (r ∷ rs) = Found r
+
+pub rest-first : (l : List ℕ) (i : ℕ) → firstRow (rest l i) ≡ rowAt l i
+rest-first l i = go (ltb i (roomOf l)) refl
+  where
+    go : (t : Bool) → ltb i (roomOf l) ≡ t → firstRow (rest l i) ≡ cond t (Found (rowFrom l (i * 10))) Nothing
+    go true e = ap firstRow (rest-more l i (ltb-true _ _ e))
+    go false e = ap firstRow (rest-none l i (ltb-false _ _ e))

@@ -8,6 +8,7 @@ pub mod Kept
 pub mod ReadBack
 pub mod RowsGiven
 pub mod TwoParts
+pub mod Walks
 pub mod Writes
 pub mod Writings
 pub mod Wrote

@@ -1,5 +1,5 @@
 -- The invariant of a loop that writes words, over any format, and what each function that writes some of them has done.
-use mathlib.Core.Path.{_≡_, refl, sym, _∙_, ap}
+use mathlib.Core.Path.{_≡_, refl, sym, _∙_, ap, subst}
 use Prim.Native.Nat.{ℕ, _+_, _*_, _≤_}
 use native.Mathlib.Omega.{arith}
 use native.Mathlib.Nat.{add-mul}
@@ -52,27 +52,29 @@ put-both {size} {a} {b} {at} {mid} {end} {old} {between} {new} h g =
 pub put-length : {size : ℕ} {ws : List ℕ} {at end : ℕ} {old new : List ℕ} → PutWords size ws old at new end → length new ≡ length old
 put-length {size} {ws} {at} {end} {old} h = ap length (h .wrote) ∙ length-sets old at (bytesOfAll size ws)
 
--- of all the words `ws`, those before `rest` are in the buffer, and `at` is the place after them
-pub record Writes (size : ℕ) (ws : List ℕ) (old rest : List ℕ) (at : ℕ) (buf : List ℕ) : Type 0 where
+-- of all the words `ws`, written from the place `from` on, those before `rest` are in the buffer, and `at` is the place after them
+pub record Writes (size : ℕ) (ws old : List ℕ) (from : ℕ) (rest : List ℕ) (at : ℕ) (buf : List ℕ) : Type 0 where
   pub done : List ℕ
   pub same : ws ≡ done ++ rest
-  pub put : PutWords size done old 0 buf at
+  pub put : PutWords size done old from buf at
 
-pub writes-start : (size : ℕ) (ws old : List ℕ) → Writes size ws old ws 0 old
-writes-start size ws old = record { done = []; same = refl; put = put-none size old 0 }
+pub writes-start : (size : ℕ) (ws old : List ℕ) (from : ℕ) → Writes size ws old from ws from old
+writes-start size ws old from = record { done = []; same = refl; put = put-none size old from }
 
-module _ {size : ℕ} {ws old : List ℕ} where
-  pub writes-length : {rest : List ℕ} {at : ℕ} {buf : List ℕ} → Writes size ws old rest at buf → length buf ≡ length old
+module _ {size : ℕ} {ws old : List ℕ} {from : ℕ} where
+  pub writes-length : {rest : List ℕ} {at : ℕ} {buf : List ℕ} → Writes size ws old from rest at buf → length buf ≡ length old
   writes-length h = put-length (h .put)
 
   -- the next words have room where all have
-  pub writes-fit : (new rest : List ℕ) {at : ℕ} {buf : List ℕ} → Writes size ws old (new ++ rest) at buf → length ws * size ≤ length old → at + length new * size ≤ length buf
+  pub writes-fit : (new rest : List ℕ) {at : ℕ} {buf : List ℕ} → Writes size ws old from (new ++ rest) at buf → from + length ws * size ≤ length old
+      → at + length new * size ≤ length buf
   writes-fit new rest {at} {buf} h f =
       let all : length ws ≡ length (h .done) + (length new + length rest) = ap length (h .same) ∙ length-append (h .done) (new ++ rest) ∙ ap (λ (n : ℕ). length (h .done) + n) (length-append new rest) in
       omega (arith, f, writes-length h, h .put .place, ap (λ (n : ℕ). n * size) all, add-mul (length (h .done)) (length new + length rest) size, add-mul (length new) (length rest) size)
 
-  pub writes-more : (new : List ℕ) {rest : List ℕ} {at at′ : ℕ} {buf buf′ : List ℕ} → Writes size ws old (new ++ rest) at buf → PutWords size new buf at buf′ at′ → Writes size ws old rest at′ buf′
+  pub writes-more : (new : List ℕ) {rest : List ℕ} {at at′ : ℕ} {buf buf′ : List ℕ} → Writes size ws old from (new ++ rest) at buf → PutWords size new buf at buf′ at′
+      → Writes size ws old from rest at′ buf′
   writes-more new {rest} h p = record { done = h .done ++ new; same = h .same ∙ sym (append-assoc (h .done) new rest); put = put-both (h .put) p }
 
-  pub writes-done : {at : ℕ} {buf : List ℕ} → Writes size ws old [] at buf → buf ≡ sets old 0 (bytesOfAll size ws)
-  writes-done h = h .put .wrote ∙ ap (λ (l : List ℕ). sets old 0 (bytesOfAll size l)) (sym (append-nil (h .done)) ∙ sym (h .same))
+  pub writes-done : {at : ℕ} {buf : List ℕ} → Writes size ws old from [] at buf → PutWords size ws old from buf at
+  writes-done {at} {buf} h = subst (λ (l : List ℕ). PutWords size l old from buf at) (sym (append-nil (h .done)) ∙ sym (h .same)) (h .put)

@@ -1,13 +1,9 @@
 //! The reader and the writer of EVT2 words.
-use super::{admit, CUT, NO_ROOM, OUTSIDE, RESERVED, SIDE, TIME};
+use super::{admit, fits, time_of, Row, BAD_ROW, CUT, NO_ROOM, OUTSIDE, RESERVED, SIDE, TIME};
 use crate::{Fault, Refusal, RowFault};
 use std::slice::IterMut;
 
 const STRAY: Refusal = Refusal(8);
-const BAD_ROW: Refusal = Refusal(12);
-const NO_LIST: Refusal = Refusal(13);
-
-const MOST_ROWS: usize = 1 << 24;
 
 const USB_PACKET: u32 = 0xfe;
 
@@ -47,7 +43,7 @@ struct Reader<'a> {
     width: u32,
     height: u32,
     /// The rows that are still free.
-    rows: IterMut<'a, [u32; 10]>,
+    rows: IterMut<'a, Row>,
     high: Option<u32>,
 }
 
@@ -130,25 +126,16 @@ fn continued<const N: usize>(words: &[Word]) -> Result<([u32; N], &[Word]), Stop
 
 /// Does what `fryskelom::write_evt2` does. The list is judged whole before the first word is written.
 pub fn write(rows: &[u32], out: &mut [u8]) -> Result<usize, RowFault> {
-    let (rows, rest) = rows.as_chunks();
-    if !rest.is_empty() || rows.len() > MOST_ROWS {
-        return Err(RowFault { refusal: NO_LIST, row: 0 });
-    }
-    let words = judge(rows)?;
-    match out.as_chunks_mut().0.get_mut(..words) {
-        Some(out) => spell(rows, out),
-        None => return Err(RowFault { refusal: NO_ROOM, row: 0 }),
-    }
-    Ok(words)
+    super::write(rows, out, judge, spell)
 }
 
 /// How many words a list takes.
-fn judge(rows: &[[u32; 10]]) -> Result<usize, RowFault> {
+fn judge(rows: &[Row]) -> Result<usize, RowFault> {
     let (mut words, mut previous, mut clock) = (0, 0, None);
     for (index, row) in rows.iter().enumerate() {
         let fault = |refusal| RowFault { refusal, row: index };
         let length = length(row).ok_or(fault(BAD_ROW))?;
-        let time = u64::from(row[2]) << 32 | u64::from(row[1]);
+        let time = time_of(row);
         if time < previous {
             return Err(fault(TIME));
         }
@@ -172,15 +159,13 @@ const KINDS: [([u32; 8], usize); 3] = {
 
 /// How many words an event takes, TIME_HIGH apart; nothing for a row that has none.
 #[inline(always)]
-fn length(row: &[u32; 10]) -> Option<usize> {
+fn length(row: &Row) -> Option<usize> {
     let (never, length) = KINDS.get((row[0] as usize).wrapping_sub(1))?;
-    // all numbers at once: the compiler makes vector instructions of this
-    let over = row[2..].iter().zip(never).fold(0, |over, (number, never)| over | number & never);
-    (over == 0).then_some(*length)
+    fits(row, never).then_some(*length)
 }
 
 /// Writes the words of a list that was judged; the buffer is just as long as they are.
-fn spell(rows: &[[u32; 10]], out: &mut [Word]) {
+fn spell(rows: &[Row], out: &mut [Word]) {
     let mut out = out.iter_mut();
     let mut put = |word: u32| {
         if let Some(out) = out.next() {

@@ -1,6 +1,6 @@
-//! Readers and a writer made by hand for speed: what a program without proofs would do. They give the same rows, words and refusals as
+//! Readers and writers made by hand for speed: what a program without proofs would do. They give the same rows, words and refusals as
 //! the library.
-use crate::{Fault, Refusal};
+use crate::{Fault, Refusal, RowFault};
 
 pub mod evt2;
 pub mod evt3;
@@ -11,9 +11,12 @@ const RESERVED: Refusal = Refusal(3);
 const CUT: Refusal = Refusal(4);
 const TIME: Refusal = Refusal(5);
 const OUTSIDE: Refusal = Refusal(6);
+const BAD_ROW: Refusal = Refusal(12);
+const NO_LIST: Refusal = Refusal(13);
 const NO_PICTURE: Refusal = Refusal(14);
 
 const MOST_BYTES: usize = 1 << 30;
+const MOST_ROWS: usize = 1 << 24;
 const SIDE: u32 = 2_048;
 
 /// What a reader of words refuses before any word.
@@ -26,4 +29,37 @@ fn admit(bytes: &[u8], width: u32, height: u32) -> Result<(), Fault> {
         return fault(NO_PICTURE);
     }
     Ok(())
+}
+
+type Row = [u32; 10];
+
+/// Does what a writer of words of N bytes does. `judge` says how many words a list takes, `spell` writes them into a buffer just as long.
+fn write<const N: usize>(
+    rows: &[u32],
+    out: &mut [u8],
+    judge: fn(&[Row]) -> Result<usize, RowFault>,
+    spell: fn(&[Row], &mut [[u8; N]]),
+) -> Result<usize, RowFault> {
+    let (rows, rest) = rows.as_chunks();
+    if !rest.is_empty() || rows.len() > MOST_ROWS {
+        return Err(RowFault { refusal: NO_LIST, row: 0 });
+    }
+    let words = judge(rows)?;
+    match out.as_chunks_mut().0.get_mut(..words) {
+        Some(out) => spell(rows, out),
+        None => return Err(RowFault { refusal: NO_ROOM, row: 0 }),
+    }
+    Ok(words)
+}
+
+/// Whether a row has no bit set that is never set in its numbers from the third on.
+#[inline(always)]
+fn fits(row: &Row, never: &[u32; 8]) -> bool {
+    // all numbers at once: the compiler makes vector instructions of this
+    row[2..].iter().zip(never).fold(0, |over, (number, never)| over | number & never) == 0
+}
+
+#[inline(always)]
+fn time_of(row: &Row) -> u64 {
+    u64::from(row[2]) << 32 | u64::from(row[1])
 }

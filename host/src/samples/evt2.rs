@@ -1,8 +1,5 @@
 //! EVT2 recordings as a camera and its driver send them, and lists of rows that can be written.
-use super::{imu, pixel, trigger, Numbers, Picture};
-
-/// The last time that a row can have.
-pub const LAST_TIME: u64 = (1 << 34) - 1;
+use super::{imu, pixel, trigger, Numbers, Picture, LAST_TIME};
 
 /// What a camera sees.
 #[derive(Clone, Copy, Debug)]

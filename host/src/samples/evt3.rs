@@ -1,17 +1,76 @@
-//! EVT3 recordings as a camera sends them.
-use super::{Numbers, Picture};
+//! EVT3 recordings as a camera sends them, and lists of rows that can be written.
+use super::{pixel, trigger, Numbers, Picture, LAST_TIME};
 
 /// What a camera sees.
 #[derive(Clone, Copy, Debug)]
 pub enum Scene {
-    /// A few moving points: nearly every event is a word of its own.
+    /// A few moving points: nearly every event is a word of its own. In a list each has a time of its own, too.
     Pixels,
     /// Light that changes everywhere: vectors with most bits set.
     Dense,
-    /// Thin lines: vectors with one to three bits set.
+    /// Thin lines: vectors with one to three bits set. In a list gaps of up to 30 columns.
     Sparse,
-    /// All of these in turn, with triggers and words that carry no event.
+    /// All of these in turn, with triggers; in a recording words that carry no event, in a list long pauses.
     Mixed,
+}
+
+/// Words whose high part falls 1,023 times, which is as often as it may.
+pub const ALL_WRAPS: &[u16] = &{
+    let mut words = [0x8fff; 2 * 1_023];
+    let mut i = 1;
+    while i < words.len() {
+        words[i] = 0x8000;
+        i += 2;
+    }
+    words
+};
+
+/// Any time before the first wrap, or one from which a wrap, 2^32 or the last time is soon reached.
+pub fn a_start(numbers: &mut Numbers) -> u64 {
+    let (any, before) = (u64::from(numbers.below(1 << 24)), u64::from(numbers.below(64)));
+    numbers.one_of(&[any, (1 << 24) - before, (3 << 24) - before, (1 << 32) - before, LAST_TIME - before])
+}
+
+/// At least so many rows that can be written. The first is at `start` or a little later, and time does not go on past the last one.
+pub fn list(scene: Scene, picture: Picture, start: u64, events: usize, numbers: &mut Numbers) -> Vec<[u32; 10]> {
+    let (mut rows, mut time) = (vec![], start);
+    while rows.len() < events {
+        let pause = match scene {
+            // about one wrap on the average
+            Scene::Mixed if numbers.once_in(1_000) => u64::from(numbers.below(1 << 25)),
+            _ => numbers.pause(),
+        };
+        time = LAST_TIME.min(time + pause);
+        see(scene, picture, time, &mut rows, numbers);
+    }
+    rows
+}
+
+fn see(scene: Scene, picture: Picture, time: u64, rows: &mut Vec<[u32; 10]>, numbers: &mut Numbers) {
+    match scene {
+        Scene::Pixels => rows.push(pixel(time, numbers.below(picture.0), numbers.below(picture.1), numbers.below(2))),
+        Scene::Dense => lines(picture, time, |numbers| if numbers.once_in(16) { 2 + numbers.below(20) } else { 1 }, rows, numbers),
+        Scene::Sparse => lines(picture, time, |numbers| 1 + numbers.below(30), rows, numbers),
+        Scene::Mixed => match numbers.below(32) {
+            0 => rows.push(trigger(time, numbers.below(16), numbers.below(2))),
+            1..=3 => see(Scene::Dense, picture, time, rows, numbers),
+            4..=8 => see(Scene::Sparse, picture, time, rows, numbers),
+            _ => see(Scene::Pixels, picture, time, rows, numbers),
+        },
+    }
+}
+
+/// One to three times, up to 40 pixels of a line, each by some `step` to the right of the one before.
+fn lines((width, height): Picture, time: u64, step: fn(&mut Numbers) -> u32, rows: &mut Vec<[u32; 10]>, numbers: &mut Numbers) {
+    for _ in 0..=numbers.below(3) {
+        let (mut x, y, polarity) = (numbers.below(width), numbers.below(height), numbers.below(2));
+        for _ in 0..=numbers.below(40) {
+            if x < width {
+                rows.push(pixel(time, x, y, polarity));
+            }
+            x += step(numbers);
+        }
+    }
 }
 
 /// A recording of at least so many events, whose clock starts at a time in microseconds.

@@ -6,6 +6,9 @@ pub mod evt3;
 /// Width and height in pixels.
 pub type Picture = (u32, u32);
 
+/// The last time that a row can have.
+pub const LAST_TIME: u64 = (1 << 34) - 1;
+
 /// A row of any kind and data.
 pub const fn row(kind: u32, time: u64, [a, b, c, d, e, f, g]: [u32; 7]) -> [u32; 10] {
     [kind, time as u32, (time >> 32) as u32, a, b, c, d, e, f, g]

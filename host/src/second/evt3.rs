@@ -1,7 +1,8 @@
-//! The reader of EVT3 words. The rows that a word gives and the state that it leaves are two functions of the state before it; a third
-//! one says whether it is refused.
-use super::rows::{row, Row};
-use super::words::{refusal_before_words, Reading, SIDE};
+//! The reader and the writer of EVT3 words. For the reader, the rows that a word gives and the state that it leaves are two functions of
+//! the state before it; a third one says whether it is refused. The writer cuts its list into groups before it spells any of them.
+use super::rows::{row, time_of, Row};
+use super::words::{self, refusal_before_words, Format, Reading, Writing, SIDE};
+use std::collections::BTreeSet;
 
 const ADDR_Y: u32 = 0;
 const ADDR_X: u32 = 2;
@@ -142,4 +143,100 @@ fn refusal_of(word: Word, next: &State, rows: &[Row], width: u32, height: u32, r
     } else {
         0
     }
+}
+
+/// Writes a list of numbers into a buffer of so many bytes.
+pub fn write(numbers: &[u32], lent: usize) -> Writing {
+    let words_of = |rows: &[Row]| spelling(rows).iter().map(|word| 4_096 * word.kind + word.data).collect();
+    words::write(&Format { bytes_a_word: 2, can_write, words_of }, numbers, lent)
+}
+
+fn can_write(row: &Row) -> bool {
+    match row[0] {
+        1 => row[3] < SIDE && row[4] < SIDE,
+        2 => row[3] < 16,
+        _ => false,
+    }
+}
+
+/// A list cut into its row groups. A trigger stands alone.
+pub fn groups(rows: &[Row]) -> Vec<&[Row]> {
+    let same_group = |last: &Row, next: &Row| {
+        let pixels = last[0] == 1 && next[0] == 1;
+        let equal = time_of(last) == time_of(next) && last[4] == next[4] && last[5] == next[5];
+        pixels && equal && last[3] < next[3]
+    };
+    rows.chunk_by(same_group).collect()
+}
+
+/// A list's words, of which each event has only what differs from those before it.
+fn spelling(rows: &[Row]) -> Vec<Word> {
+    let (mut words, mut last_time, mut last_y) = (vec![], None, None);
+    for group in groups(rows) {
+        let &[kind, _, _, a, b, ..] = &group[0];
+        let time = Some(time_of(&group[0]));
+        if last_time != time {
+            words.extend(time_words(last_time, time_of(&group[0])));
+            last_time = time;
+        }
+        if kind == 2 {
+            words.push(Word { kind: TRIGGER, data: 256 * a + b });
+            continue;
+        }
+        if last_y != Some(b) {
+            words.push(Word { kind: ADDR_Y, data: b });
+            last_y = Some(b);
+        }
+        words.extend(column_words(group));
+    }
+    words
+}
+
+/// The words that bring the clock from the last event's time to a new one.
+fn time_words(last: Option<u64>, time: u64) -> Vec<Word> {
+    let wraps = |time: u64| time / 16_777_216;
+    let high_part = |time: u64| (time / 4_096 % 4_096) as u32;
+    let (mut words, mut high) = (vec![], last.map(high_part));
+    for _ in wraps(last.unwrap_or(0))..wraps(time) {
+        if high != Some(4_095) {
+            words.push(Word { kind: TIME_HIGH, data: 4_095 });
+        }
+        words.push(Word { kind: TIME_HIGH, data: 0 });
+        high = Some(0);
+    }
+    if high != Some(high_part(time)) {
+        words.push(Word { kind: TIME_HIGH, data: high_part(time) });
+    }
+    words.push(Word { kind: TIME_LOW, data: (time % 4_096) as u32 });
+    words
+}
+
+/// The words for the columns of a group: the choice for the next unwritten one, until there is none.
+fn column_words(group: &[Row]) -> Vec<Word> {
+    let columns: BTreeSet<u32> = group.iter().map(|row| row[3]).collect();
+    let address = |x: u32| 2_048 * group[0][5] + x;
+    let (mut words, mut unwritten, mut base) = (vec![], columns.clone(), None);
+    while let Some(&x) = unwritten.first() {
+        let vector = match base {
+            Some(base) if (base..=base + 11).contains(&x) => Some(base),
+            _ if columns.range(x..=x + 11).count() >= 2 => {
+                words.push(Word { kind: BASE_X, data: address(x) });
+                Some(x)
+            }
+            _ => None,
+        };
+        match vector {
+            Some(first) => {
+                let bits = columns.range(first..=first + 11).map(|x| 2u32.pow(x - first));
+                words.push(Word { kind: VECT_12, data: bits.sum() });
+                unwritten.retain(|x| !(first..=first + 11).contains(x));
+                base = Some(SIDE.min(first + 12));
+            }
+            None => {
+                words.push(Word { kind: ADDR_X, data: address(x) });
+                unwritten.remove(&x);
+            }
+        }
+    }
+    words
 }

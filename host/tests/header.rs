@@ -31,10 +31,12 @@ static void show_reading(reader *read, const uint8_t *bytes, size_t len) {
     printf("\n");
 }
 
-static void show_writing(const uint32_t *rows, size_t len) {
+typedef fry_writing writer(const uint32_t *, size_t, uint8_t *, size_t);
+
+static void show_writing(writer *write, const uint32_t *rows, size_t len) {
     uint8_t out[12];
     memset(out, 7, 12);
-    fry_writing w = fry_write_evt2(rows, len, out, 12);
+    fry_writing w = write(rows, len, out, 12);
     printf("%" PRIu64 " %" PRIu64, w.refusal, w.count);
     for (int i = 0; i < 12; i++) printf(" %02x", (unsigned)out[i]);
     printf("\n");
@@ -53,8 +55,10 @@ int main(void) {
     show_reading(fry_read_evt2, evt2, 8);
     show_reading(fry_read_evt2, evt2, 12);
     const uint32_t list[20] = {1, 66, 0, 5, 3, 1, 0, 0, 0, 0, 2, 7, 1, 32, 1, 0, 0, 0, 0, 0};
-    show_writing(list, 10);
-    show_writing(list, 20);
+    show_writing(fry_write_evt2, list, 10);
+    show_writing(fry_write_evt2, list, 20);
+    show_writing(fry_write_evt3, list, 10);
+    show_writing(fry_write_evt3, list, 20);
     return sizeof(fry_reading) == 24 && sizeof(fry_writing) == 16 ? 0 : 1;
 }
 "#;
@@ -68,6 +72,8 @@ const EXPECTED: &str = "\
 0 1 0 1 66 0 5 3 1 0 0 0 0 7 7 7 7 7 7 7 7 7 7
 3 1 8 1 66 0 5 3 1 0 0 0 0 7 7 7 7 7 7 7 7 7 7
 0 2 01 00 00 80 03 28 80 10 07 07 07 07
+12 1 07 07 07 07 07 07 07 07 07 07 07 07
+0 4 00 80 42 60 03 00 05 28 07 07 07 07
 12 1 07 07 07 07 07 07 07 07 07 07 07 07
 ";
 

@@ -51,18 +51,6 @@ not-writable UsbPacket r h = refl
 not-writable Special r h = refl
 not-writable Other r h = refl
 
--- a row judged by the rules of its own kind, or for which EVT2 has no words
-module _ (r : Row) (last : ℕ) {k : Kind} (is : kindOf (r .kind) ≡ k) where
-  can : {w : Bool} → writableAs k r ≡ w → writable r ≡ w
-  unfolding writable
-  can e = ap (λ (j : Kind). writableAs j r) is ∙ e
-
-  pub judged-kind : {w : Bool} → writableAs k r ≡ w → judgedAs k w r last ≡ judgedOf (writable r) r last
-  judged-kind {w} e = judged-own r w last is ∙ ap (λ (t : Bool). judgedOf t r last) (sym (can e))
-
-  pub judged-wordless : writableAs k r ≡ false → Refused BadRow ≡ judgedOf (writable r) r last
-  judged-wordless e = judged-unwritable r last ∙ ap (λ (t : Bool). judgedOf t r last) (sym (can e))
-
 -- an event takes six words at most, and seven with its high part
 event-short : (k : Kind) (r : Row) → length (eventAs k r) ≤ 6
 unfolding eventAs

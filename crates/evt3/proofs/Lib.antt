@@ -1,6 +1,9 @@
 -- Lemmas, and the laws proved (Kept).
+pub mod BaseSteps
+pub mod Bits
 pub mod Chosen
 pub mod ColumnCounts
+pub mod ColumnWalk
 pub mod Columns
 pub mod ColumnsBack
 pub mod Counting
@@ -8,9 +11,13 @@ pub mod GoodRead
 pub mod Groups
 pub mod GroupsCut
 pub mod Kept
+pub mod Lengths
 pub mod Marks
+pub mod OtherRows
+pub mod PutSteps
 pub mod ReadBack
 pub mod RowRuns
+pub mod RowSteps
 pub mod SpelledLength
 pub mod SpelledSteps
 pub mod Steps

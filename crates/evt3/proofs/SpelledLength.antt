@@ -35,7 +35,7 @@ unless-short false w = omega arith
 pub y-short : (lined : Bool) (old y : ℕ) → length (yWords lined old y) ≤ 1
 y-short lined old y = unless-short (lined && eqb old y) _
 
-high-short : (n : ℕ) (known : Bool) (old high : ℕ) → length (highWords n known old high) ≤ 1 + 2 * n
+pub high-short : (n : ℕ) (known : Bool) (old high : ℕ) → length (highWords n known old high) ≤ 1 + 2 * n
 unfolding highWords
 high-short zero known old high = unless-short (known && eqb old high) (highWord high)
 high-short (suc n) known old high =

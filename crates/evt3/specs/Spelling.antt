@@ -106,11 +106,11 @@ choose known base x xs =
 unfoldable pub columnWords : (polarity : ℕ) (known : Bool) (base : ℕ) → List ℕ → List ℕ
 columnWords polarity known base [] = []
 columnWords polarity known base (x ∷ xs) = elim (choose known base x xs) [
-    marked ↦ columnWords polarity known base xs
-    | vector ↦ vectorWord (marks 12 base (x ∷ xs)) ∷ columnWords polarity true (movedBase 12 base) xs
-    | based ↦ baseWord polarity x ∷ vectorWord (marks 12 x (x ∷ xs)) ∷ columnWords polarity true (movedBase 12 x) xs
-    | single ↦ xWord polarity x ∷ columnWords polarity known base xs
-    ]
+  | marked ↦ columnWords polarity known base xs
+  | vector ↦ vectorWord (marks 12 base (x ∷ xs)) ∷ columnWords polarity true (movedBase 12 base) xs
+  | based ↦ baseWord polarity x ∷ vectorWord (marks 12 x (x ∷ xs)) ∷ columnWords polarity true (movedBase 12 x) xs
+  | single ↦ xWord polarity x ∷ columnWords polarity known base xs
+]
 
 -- whether a row's group goes on with the next row: two pixels of equal time, y and polarity, x rising
 unfoldable pub goesOn : Row → Row → Bool
@@ -154,15 +154,25 @@ groupAs UsbPacket told g = []
 groupAs Special told g = []
 groupAs Other told g = []
 
--- what is told then: the time, and by pixels their y
+-- what is told before the first row; with a time, and with a line too
+abbrev pub nothingTold : Told
+nothingTold = record { time = 0; y = 0; timed = false; lined = false }
+
+abbrev pub timeTold : Told → ℕ → Told
+timeTold told time = record { time = time; y = told .y; timed = true; lined = told .lined }
+
+abbrev pub lineTold : Told → ℕ → ℕ → Told
+lineTold told time y = record { time = time; y = y; timed = true; lined = true }
+
+-- what is told after a row: its time, and the line of a pixel
 unfoldable pub toldAs : Kind → Told → Row → Told
-toldAs Pixel told r = record { time = timeOf r; y = r .b; timed = true; lined = true }
-toldAs Trigger told r = record { time = timeOf r; y = told .y; timed = true; lined = told .lined }
-toldAs ImuCounts told r = record { time = timeOf r; y = told .y; timed = true; lined = told .lined }
-toldAs ImuSingles told r = record { time = timeOf r; y = told .y; timed = true; lined = told .lined }
-toldAs UsbPacket told r = record { time = timeOf r; y = told .y; timed = true; lined = told .lined }
-toldAs Special told r = record { time = timeOf r; y = told .y; timed = true; lined = told .lined }
-toldAs Other told r = record { time = timeOf r; y = told .y; timed = true; lined = told .lined }
+toldAs Pixel told r = lineTold told (timeOf r) (r .b)
+toldAs Trigger told r = timeTold told (timeOf r)
+toldAs ImuCounts told r = timeTold told (timeOf r)
+toldAs ImuSingles told r = timeTold told (timeOf r)
+toldAs UsbPacket told r = timeTold told (timeOf r)
+toldAs Special told r = timeTold told (timeOf r)
+toldAs Other told r = timeTold told (timeOf r)
 
 -- groups one after the other, each at its time
 unfoldable pub wordsFrom : Told → List Group → List ℕ
@@ -171,9 +181,6 @@ wordsFrom told (g ∷ gs) =
     timeWords (told .timed) (told .time) (timeOf (g .first))
     ++ (groupAs (kindOf (g .first .kind)) told g ++ wordsFrom (toldAs (kindOf (g .first .kind)) told (g .first)) gs)
 
--- words of two bytes; before the first row nothing is told
-abbrev pub nothingTold : Told
-nothingTold = record { time = 0; y = 0; timed = false; lined = false }
-
+-- words of two bytes
 abbrev pub spelling : Spelling
 spelling = record { size = 2; writable = writable; words = λ rs. wordsFrom nothingTold (groupsOf rs) }

@@ -66,19 +66,36 @@ vectorWords b a = cond (vectorEnds b a) (vectorWord (b .bits) ∷ []) []
 abbrev pub taken : Base → ℕ → Ahead → Base
 taken b x a = baseWith b (columnAt b x a) x
 
-abbrev pub basePast : Base → ℕ → Ahead → Base
-basePast b x a = cond (a .on) (taken b x a) noBase
+abbrev pub baseAfter : Base → Ahead → Base
+baseAfter b a = cond (a .on) b noBase
 
--- the words that a row adds after its time
-unfoldable pub rowAs : Kind → Told → Base → Row → Ahead → List ℕ
-rowAs Pixel told b r a =
-    yWords (told .lined) (told .y) (r .b) ++ (leadWords (columnAt b (r .a) a) (r .c) (r .a) ++ vectorWords (taken b (r .a) a) a)
-rowAs Trigger told b r a = triggerWord (r .a) (r .b) ∷ []
-rowAs ImuCounts told b r a = []
-rowAs ImuSingles told b r a = []
-rowAs UsbPacket told b r a = []
-rowAs Special told b r a = []
-rowAs Other told b r a = []
+abbrev pub basePast : Base → ℕ → Ahead → Base
+basePast b x a = baseAfter (taken b x a) a
+
+-- the words of a pixel after its time: Y, if new, the column's own word, and the vector in hand, if it ends
+unfoldable pub pixelWords : Told → Column → Base → Row → Ahead → List ℕ
+pixelWords told column held r a =
+    yWords (told .lined) (told .y) (r .b) ++ (leadWords column (r .c) (r .a) ++ vectorWords held a)
+
+-- the words of any other row
+unfoldable pub otherAs : Kind → Row → List ℕ
+otherAs Pixel r = []
+otherAs Trigger r = triggerWord (r .a) (r .b) ∷ []
+otherAs ImuCounts r = []
+otherAs ImuSingles r = []
+otherAs UsbPacket r = []
+otherAs Special r = []
+otherAs Other r = []
+
+-- the words that a row adds
+abbrev pub rowAs : Kind → Told → Base → Row → Ahead → List ℕ
+rowAs Pixel told b r a = pixelWords told (columnAt b (r .a) a) (taken b (r .a) a) r a
+rowAs Trigger told b r a = otherAs Trigger r
+rowAs ImuCounts told b r a = otherAs ImuCounts r
+rowAs ImuSingles told b r a = otherAs ImuSingles r
+rowAs UsbPacket told b r a = otherAs UsbPacket r
+rowAs Special told b r a = otherAs Special r
+rowAs Other told b r a = otherAs Other r
 
 abbrev pub rowWords : Told → Base → Row → Ahead → List ℕ
 rowWords told b r a = timeWords (told .timed) (told .time) (timeOf r) ++ rowAs (kindOf (r .kind)) told b r a

@@ -3,7 +3,7 @@ ghost use mathlib.Core.Path.{_≡_};
 ghost use mathlib.Core.Bool.{cond};
 ghost use Prim.Native.Nat.{_^_, _<_};
 ghost use Rattle.evt3.specs.Spelling.{goesOn};
-ghost use Rattle.evt3.specs.Walk.{aheadOf, within, noBase, columnAt, baseWith, vectorEnds, basePast};
+ghost use Rattle.evt3.specs.Walk.{aheadOf, within, noBase, columnAt, baseWith, vectorEnds, baseAfter};
 use rows::Row;
 use rows::RowAt;
 
@@ -77,10 +77,7 @@ impl Ahead {
     fn within(self, base: u32) -> bool
         ensures { λ r. ⌜ r ≡ within base self ⌝ }
     {
-        if self.on {
-            return (self.x as u64) < base as u64 + 12;
-        }
-        false
+        self.on & ((self.x as u64) < base as u64 + 12)
     }
 }
 
@@ -158,18 +155,15 @@ impl Base {
     pub(crate) fn ends(self, ahead: Ahead) -> bool
         ensures { λ r. ⌜ r ≡ vectorEnds self ahead ⌝ }
     {
-        if self.bits == 0 {
-            return false;
-        }
-        !ahead.within(self.from)
+        (0 < self.bits) & !ahead.within(self.from)
     }
 
-    // After a row at the column x: with that column taken, and none where the group does not go on.
-    pub(crate) fn past(self, x: u32, ahead: Ahead) -> Base
-        ensures { λ r. ⌜ r ≡ basePast self x ahead ⌝ }
+    // After the row: where the group does not go on there is no base.
+    pub(crate) fn after(self, ahead: Ahead) -> Base
+        ensures { λ r. ⌜ r ≡ baseAfter self ahead ⌝ }
     {
         if ahead.on {
-            return self.with(self.column(x, ahead), x);
+            return self;
         }
         Base::none()
     }

@@ -2,10 +2,10 @@
 ghost use mathlib.Core.List.{[], _∷_};
 ghost use Prim.Native.Nat.{_+_, _*_, _≤_};
 ghost use lib.ListN.{length};
-ghost use Rattle.rows.specs.declared.rules.Kind.the-variants as Kind;
+ghost use Rattle.rows.specs.Rules.{kindOf};
 ghost use Rattle.words.specs.Writer.{PutWords};
 ghost use Rattle.evt3.specs.Spelling.{unless, highWords, timeWords};
-ghost use Rattle.evt3.specs.Walk.{leadWords, vectorWords, rowAs, rowWords};
+ghost use Rattle.evt3.specs.Walk.{leadWords, vectorWords, pixelWords, otherAs};
 use crate::base::Ahead;
 use crate::base::Base;
 use crate::base::Column;
@@ -36,7 +36,7 @@ fn put_unless(out: &mut [u8], at: usize, known: bool, word: u64) -> usize
 }
 
 // Writes the words that take the high part to another over some wraps.
-fn put_high(out: &mut [u8], at: usize, wraps: u64, known: bool, old: u64, high: u64) -> usize
+fn put_high(out: &mut [u8], at: usize, wraps: u64, known: bool, old: u64, high: u16) -> usize
     requires { ⌜ at + length (highWords wraps known old high) * 2 ≤ length (now out) ⌝ }
     ensures { λ r. ⌜ PutWords 2 (highWords wraps known old high) (now (out .entry)) at (now (out .exit)) r ⌝ }
 {
@@ -51,11 +51,16 @@ fn put_high(out: &mut [u8], at: usize, wraps: u64, known: bool, old: u64, high: 
         from = 0;
         left -= 1;
     }
-    put_unless(out, to, is_known(set, from, high), 32768 + high)
+    put_unless(
+        out,
+        to,
+        is_known(set, from, high as u64),
+        32768 + high as u64,
+    )
 }
 
 // Writes a time, if it is new.
-fn put_time(out: &mut [u8], at: usize, told: Told, time: u64) -> usize
+pub(crate) fn put_time(out: &mut [u8], at: usize, told: Told, time: u64) -> usize
     requires { ⌜ at + length (timeWords (told .timed) (told .time) time) * 2 ≤ length (now out) ⌝ }
     ensures { λ r. ⌜ PutWords 2 (timeWords (told .timed) (told .time) time) (now (out .entry)) at (now (out .exit)) r ⌝ }
 {
@@ -69,7 +74,7 @@ fn put_time(out: &mut [u8], at: usize, told: Told, time: u64) -> usize
         wraps,
         told.timed,
         told.time / 4096 % 4096,
-        time / 4096 % 4096,
+        (time / 4096 % 4096) as u16,
     );
     put_word(out, to, 24576 + time % 4096)
 }
@@ -89,45 +94,43 @@ fn put_lead(out: &mut [u8], at: usize, column: Column, polarity: u32, x: u32) ->
 }
 
 // Writes a vector in hand, if it ends here.
-fn put_vector(out: &mut [u8], at: usize, base: Base, ahead: Ahead) -> usize
-    requires { ⌜ at + length (vectorWords base ahead) * 2 ≤ length (now out) ⌝ }
-    ensures { λ r. ⌜ PutWords 2 (vectorWords base ahead) (now (out .entry)) at (now (out .exit)) r ⌝ }
+fn put_vector(out: &mut [u8], at: usize, held: Base, ahead: Ahead) -> usize
+    requires { ⌜ at + length (vectorWords held ahead) * 2 ≤ length (now out) ⌝ }
+    ensures { λ r. ⌜ PutWords 2 (vectorWords held ahead) (now (out .entry)) at (now (out .exit)) r ⌝ }
 {
-    if base.ends(ahead) {
-        return put_word(out, at, 16384 + base.bits as u64);
+    if held.ends(ahead) {
+        return put_word(out, at, 16384 + held.bits as u64);
     }
     at
 }
 
 // Writes a pixel after its time.
-fn put_pixel(out: &mut [u8], at: usize, told: Told, base: Base, row: Row, ahead: Ahead) -> usize
-    requires { ⌜ at + length (rowAs Kind.Pixel told base row ahead) * 2 ≤ length (now out) ⌝ }
-    ensures { λ r. ⌜ PutWords 2 (rowAs Kind.Pixel told base row ahead) (now (out .entry)) at (now (out .exit)) r ⌝ }
-{
-    let column = base.column(row.a, ahead);
-    let known = is_known(told.lined, told.y as u64, row.b as u64);
-    let lined = put_unless(out, at, known, row.b as u64);
-    let led = put_lead(out, lined, column, row.c, row.a);
-    put_vector(out, led, base.with(column, row.a), ahead)
-}
-
-// Writes a row.
-pub(crate) fn put_row(
+pub(crate) fn put_pixel(
     out: &mut [u8],
     at: usize,
     told: Told,
-    base: Base,
+    column: Column,
+    held: Base,
     row: Row,
     ahead: Ahead,
 ) -> usize
-    requires { ⌜ at + length (rowWords told base row ahead) * 2 ≤ length (now out) ⌝ }
-    ensures { λ r. ⌜ PutWords 2 (rowWords told base row ahead) (now (out .entry)) at (now (out .exit)) r ⌝ }
+    requires { ⌜ at + length (pixelWords told column held row ahead) * 2 ≤ length (now out) ⌝ }
+    ensures { λ r. ⌜ PutWords 2 (pixelWords told column held row ahead) (now (out .entry)) at (now (out .exit)) r ⌝ }
 {
-    let timed = put_time(out, at, told, row.time());
+    let known = is_known(told.lined, told.y as u64, row.b as u64);
+    let lined = put_unless(out, at, known, row.b as u64);
+    let led = put_lead(out, lined, column, row.c, row.a);
+    put_vector(out, led, held, ahead)
+}
+
+// Writes any other row after its time.
+pub(crate) fn put_other(out: &mut [u8], at: usize, row: Row) -> usize
+    requires { ⌜ at + length (otherAs (kindOf (row .kind)) row) * 2 ≤ length (now out) ⌝ }
+    ensures { λ r. ⌜ PutWords 2 (otherAs (kindOf (row .kind)) row) (now (out .entry)) at (now (out .exit)) r ⌝ }
+{
     let kind = Kind::of(row.kind);
     match kind {
-        Kind::Pixel => put_pixel(out, timed, told, base, row, ahead),
-        Kind::Trigger => put_word(out, timed, 40960 + (row.a as u64 * 256 + row.b as u64)),
-        _ => timed,
+        Kind::Trigger => put_word(out, at, 40960 + (row.a as u64 * 256 + row.b as u64)),
+        _ => at,
     }
 }

@@ -10,8 +10,12 @@ ghost use Rattle.evt3.specs.Spelling.{writable, spelling};
 ghost use Rattle.evt3.specs.Walk.{RowsAndRoom};
 use crate::base::Ahead;
 use crate::base::Base;
-use crate::length::row_length;
-use crate::put::put_row;
+use crate::length::other_length;
+use crate::length::pixel_length;
+use crate::length::time_length;
+use crate::put::put_other;
+use crate::put::put_pixel;
+use crate::put::put_time;
 use crate::told::Told;
 use rows::Fault;
 use rows::Judged;
@@ -41,7 +45,7 @@ fn judge(row: Row, last: u64) -> Judged
 fn count(rows: &[u32]) -> Writing
     ensures { λ r. ⌜ r ≡ writingOf (verdictFrom writable (rowsOf (now (rows .entry))) 0 0) (length (spelled spelling (now (rows .entry)))) ⌝ }
 {
-    let mut words: u64 = 0;
+    let mut words: usize = 0;
     let mut told = Told::nothing();
     let mut base = Base::none();
     let mut i: usize = 0;
@@ -49,9 +53,7 @@ fn count(rows: &[u32]) -> Writing
         let found = rows::get(rows, i);
         match found {
             RowAt::Nothing => {
-                return Writing::Written {
-                    count: words as usize,
-                };
+                return Writing::Written { count: words };
             }
             RowAt::Found(row) => {
                 let judged = judge(row, told.time);
@@ -59,11 +61,21 @@ fn count(rows: &[u32]) -> Writing
                     Judged::Refused(fault) => {
                         return Writing::Refused { fault, row: i };
                     }
-                    Judged::Time(_) => {
-                        let ahead = Ahead::of(row, rows::get(rows, i + 1));
-                        words += row_length(told, base, row, ahead);
-                        base = base.past(row.a, ahead);
-                        told = told.after(row);
+                    Judged::Time(time) => {
+                        words += time_length(told, time);
+                        if row.kind == 1 {
+                            let ahead = Ahead::of(row, rows::get(rows, i + 1));
+                            let column = base.column(row.a, ahead);
+                            let held = base.with(column, row.a);
+                            words += pixel_length(told, column, held, row, ahead);
+                            base = held.after(ahead);
+                            told = told.with_line(time, row.b);
+                            i += 1;
+                            continue;
+                        }
+                        words += other_length(row);
+                        base = Base::none();
+                        told = told.with_time(time);
                         i += 1;
                     }
                 }
@@ -88,10 +100,21 @@ fn put_rows(rows: &[u32], out: &mut [u8])
                 return;
             }
             RowAt::Found(row) => {
-                let ahead = Ahead::of(row, rows::get(rows, done + 1));
-                at = put_row(out, at, told, base, row, ahead);
-                base = base.past(row.a, ahead);
-                told = told.after(row);
+                let time = row.time();
+                at = put_time(out, at, told, time);
+                if row.kind == 1 {
+                    let ahead = Ahead::of(row, rows::get(rows, done + 1));
+                    let column = base.column(row.a, ahead);
+                    let held = base.with(column, row.a);
+                    at = put_pixel(out, at, told, column, held, row, ahead);
+                    base = held.after(ahead);
+                    told = told.with_line(time, row.b);
+                    done += 1;
+                    continue;
+                }
+                at = put_other(out, at, row);
+                base = Base::none();
+                told = told.with_time(time);
                 done += 1;
             }
         }

@@ -25,18 +25,29 @@ module _ (r : Row) {good writable : Bool} {t : ℕ} (last : ℕ) (g : good ≡ t
   judged-time h = simp (g, w, le-ltb (timeOf r) last (subst (λ (k : ℕ). last ≤ k) e h)) (ap Time e)
 
 -- the rules of a row's own kind are those of the row
-pub judged-own : (r : Row) (writable : Bool) (last : ℕ) {k : Kind} → kindOf (r .kind) ≡ k → judgedAs k writable r last ≡ judgedOf writable r last
+judged-own : (r : Row) (writable : Bool) (last : ℕ) {k : Kind} → kindOf (r .kind) ≡ k → judgedAs k writable r last ≡ judgedOf writable r last
 unfolding judgedAs judgedOf goodRow
 judged-own r writable last e = ap (λ (k : Kind). judgedBy (goodAs k r) writable r last) (sym e)
 
 -- a row that the format cannot write
-pub judged-unwritable : (r : Row) (last : ℕ) → Refused BadRow ≡ judgedOf false r last
+judged-unwritable : (r : Row) (last : ℕ) → Refused BadRow ≡ judgedOf false r last
 unfolding judgedOf
 judged-unwritable r last = go (goodRow r)
   where
     go : (g : Bool) → Refused BadRow ≡ judgedBy g false r last
     go true = refl
     go false = refl
+
+-- a row of a kind, where a format says kind by kind which rows it can write
+module _ (can : Kind → Row → Bool) (r : Row) (last : ℕ) {k : Kind} (is : kindOf (r .kind) ≡ k) where
+  same-can : {w : Bool} → can k r ≡ w → w ≡ can (kindOf (r .kind)) r
+  same-can e = sym (ap (λ (j : Kind). can j r) is ∙ e)
+
+  pub judged-kind : {w : Bool} → can k r ≡ w → judgedAs k w r last ≡ judgedOf (can (kindOf (r .kind)) r) r last
+  judged-kind {w} e = judged-own r w last is ∙ ap (λ (t : Bool). judgedOf t r last) (same-can e)
+
+  pub judged-wordless : can k r ≡ false → Refused BadRow ≡ judgedOf (can (kindOf (r .kind)) r) r last
+  judged-wordless e = judged-unwritable r last ∙ ap (λ (t : Bool). judgedOf t r last) (same-can e)
 
 -- and a row that is not refused has that time
 pub judged-is-time : (writable : Bool) (r : Row) (last : ℕ) {t : ℕ} → Time t ≡ judgedOf writable r last → t ≡ timeOf r
@@ -47,6 +58,16 @@ judged-is-time writable r last {t} e = go (goodRow r && writable) (ltb (timeOf r
     go true true f = let z : _≡_ {A = ℕ} 0 1 = cc in absurd (omega arith)
     go true false f = cc
     go false b f = let z : _≡_ {A = ℕ} 0 1 = cc in absurd (omega arith)
+
+-- and no row before the last
+pub judged-later : (writable : Bool) (r : Row) (last : ℕ) {t : ℕ} → Time t ≡ judgedOf writable r last → last ≤ t
+unfolding judgedOf
+judged-later writable r last {t} e = go (goodRow r && writable) (ltb (timeOf r) last) refl e
+  where
+    go : (g b : Bool) → ltb (timeOf r) last ≡ b → Time t ≡ cond g (cond b (Refused BadTime) (Time (timeOf r))) (Refused BadRow) → last ≤ t
+    go true true h f = let z : _≡_ {A = ℕ} 0 1 = cc in absurd (omega arith)
+    go true false h f = let same : t ≡ timeOf r = cc in omega (arith, ltb-false (timeOf r) last h)
+    go false b h f = let z : _≡_ {A = ℕ} 0 1 = cc in absurd (omega arith)
 
 no-refusal : {E : Type 0} {f : Fault} {i : ℕ} → refused f i ≡ accepted → E
 no-refusal e = let z : _≡_ {A = ℕ} 0 1 = cc in absurd (omega arith)

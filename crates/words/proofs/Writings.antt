@@ -56,17 +56,20 @@ module _ (s : Spelling) (l old : List ℕ) where
     unfolding writingVerdict verdictOf
     wrote-refused e = as-refused (rw (good, same-refused (verdictFrom (s .writable) (rowsOf l) 0 0) (length (spelled s l)) (sym e ∙ is)))
 
+    pub passed : {n : ℕ} → counted ≡ Written n → verdictFrom (s .writable) (rowsOf l) 0 0 ≡ accepted
+    passed e = same-written (verdictFrom (s .writable) (rowsOf l) 0 0) (sym e ∙ is) .0
+
     pub word-count : {n : ℕ} → counted ≡ Written n → n ≡ length (spelled s l)
     word-count e = same-written (verdictFrom (s .writable) (rowsOf l) 0 0) (sym e ∙ is) .1
 
     pub wrote-full : {n : ℕ} → counted ≡ Written n → length old < n * s .size → WroteAs s l old old (Refused NoRoom 0)
     unfolding writingVerdict verdictOf
-    wrote-full e f = as-refused (rw (good, same-written (verdictFrom (s .writable) (rowsOf l) 0 0) (sym e ∙ is) .0, sym (word-count e), lt-leb _ _ f))
+    wrote-full e f = as-refused (rw (good, passed e, sym (word-count e), lt-leb _ _ f))
 
     pub wrote-all : {n : ℕ} {new : List ℕ} → counted ≡ Written n → n * s .size ≤ length old → new ≡ sets old 0 (bytesOfAll (s .size) (spelled s l)) → WroteAs s l old new (Written n)
     unfolding writingVerdict verdictOf
     wrote-all {n} e f g =
-        rw (word-count e) (as-accepted (rw (good, same-written (verdictFrom (s .writable) (rowsOf l) 0 0) (sym e ∙ is) .0, sym (word-count e), le-leb _ _ f)) (rw (sym (word-count e)) f) g)
+        rw (word-count e) (as-accepted (rw (good, passed e, sym (word-count e), le-leb _ _ f)) (rw (sym (word-count e)) f) g)
 
 -- a list that passes 13, 12 and 5 is refused where the buffer is shorter than its words, and there alone
 pub room-exact : (s : Spelling) (l : List ℕ) (bytes : ℕ) → verdictOf (s .writable) l ≡ accepted → RoomExact s l bytes

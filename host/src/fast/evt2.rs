@@ -1,5 +1,5 @@
 //! The reader and the writer of EVT2 words.
-use super::{admit, fits, time_of, Row, BAD_ROW, CUT, NO_ROOM, OUTSIDE, RESERVED, SIDE, TIME};
+use super::{admit, fits, time_of, trigger, Never, Row, BAD_ROW, CUT, HIGH, NONE, NO_ROOM, OUTSIDE, PIXEL, RESERVED, TIME};
 use crate::{Fault, Refusal, RowFault};
 use std::slice::IterMut;
 
@@ -145,16 +145,10 @@ fn judge(rows: &[Row]) -> Result<usize, RowFault> {
     Ok(words)
 }
 
-/// For kinds 1 to 3 the bits that no writable row has set in its numbers from the third on, and how many words it takes.
-const KINDS: [([u32; 8], usize); 3] = {
-    const NONE: u32 = !0;
-    const HIGH: u32 = !3;
+/// What a writable row of kinds 1 to 3 is, and how many words it takes.
+const KINDS: [(Never, usize); 3] = {
     const COUNT: u32 = !0xffff;
-    [
-        ([HIGH, !(SIDE - 1), !(SIDE - 1), !1, NONE, NONE, NONE, NONE], 1),
-        ([HIGH, !0x1f, !1, NONE, NONE, NONE, NONE, NONE], 1),
-        ([HIGH, COUNT, COUNT, COUNT, COUNT, COUNT, COUNT, NONE], 6),
-    ]
+    [(PIXEL, 1), (trigger(32), 1), ([HIGH, COUNT, COUNT, COUNT, COUNT, COUNT, COUNT, NONE], 6)]
 };
 
 /// How many words an event takes, TIME_HIGH apart; nothing for a row that has none.

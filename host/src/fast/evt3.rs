@@ -1,6 +1,6 @@
-//! The reader of EVT3 words.
-use super::{admit, CUT, NO_ROOM, OUTSIDE, RESERVED, SIDE, TIME};
-use crate::{Fault, Refusal};
+//! The reader and the writer of EVT3 words.
+use super::{admit, fits, time_of, trigger, Never, Row, BAD_ROW, CUT, NO_ROOM, OUTSIDE, PIXEL, RESERVED, SIDE, TIME};
+use crate::{Fault, Refusal, RowFault};
 use std::slice::IterMut;
 
 const SLAVE: Refusal = Refusal(7);
@@ -31,7 +31,7 @@ struct Reader<'a> {
     width: u32,
     height: u32,
     /// The rows that are still free.
-    rows: IterMut<'a, [u32; 10]>,
+    rows: IterMut<'a, Row>,
     wraps: u32,
     high: Option<u32>,
     /// The time as a row has it: the low 32 bits and the rest.
@@ -125,4 +125,160 @@ impl Reader<'_> {
         *self.rows.next().ok_or(NO_ROOM)? = [2, low, high, channel, edge, 0, 0, 0, 0, 0];
         Ok(())
     }
+}
+
+/// Does what `fryskelom::write_evt3` does. The list is judged whole before the first word is written.
+pub fn write(rows: &[u32], out: &mut [u8]) -> Result<usize, RowFault> {
+    super::write(rows, out, judge, spell)
+}
+
+/// What a writable row of kinds 1 and 2 is.
+const KINDS: [Never; 2] = [PIXEL, trigger(16)];
+
+/// The columns of a vector.
+const COLUMNS: u32 = 12;
+
+/// The time and the line before the first event.
+const NO_TIME: i64 = -1;
+const NO_LINE: u32 = SIDE;
+
+/// How many words a list takes.
+fn judge(rows: &[Row]) -> Result<usize, RowFault> {
+    let (mut words, mut time, mut line, mut last) = (0, NO_TIME, NO_LINE, &[0; 10]);
+    let (mut base, mut vector) = (0, false);
+    for (index, row) in rows.iter().enumerate() {
+        let fault = |refusal| RowFault { refusal, row: index };
+        let never = KINDS.get((row[0] as usize).wrapping_sub(1)).ok_or(fault(BAD_ROW))?;
+        if !fits(row, never) {
+            return Err(fault(BAD_ROW));
+        }
+        let &[kind, _, _, x, y, ..] = row;
+        if !joins(last, row) {
+            let now = time_of(row) as i64;
+            if now < time {
+                return Err(fault(TIME));
+            }
+            words += 1 + time_words(time, now);
+            time = now;
+            if kind == 1 {
+                words += usize::from(y != line);
+                line = y;
+            }
+            (base, vector) = (x, false);
+        } else if x - base < COLUMNS {
+            // the second pixel makes a base and a vector of the first one's word
+            words += usize::from(!vector);
+            vector = true;
+        } else {
+            words += 1;
+            vector &= x - base < 2 * COLUMNS;
+            base = if vector { base + COLUMNS } else { x };
+        }
+        last = row;
+    }
+    Ok(words)
+}
+
+/// Whether a row is in the group of the one before it.
+#[inline(always)]
+fn joins(last: &Row, row: &Row) -> bool {
+    let differs = last[0] ^ row[0] | last[1] ^ row[1] | last[2] ^ row[2] | last[4] ^ row[4] | last[5] ^ row[5];
+    differs == 0 && row[0] == 1 && row[3] > last[3]
+}
+
+/// How many words bring the clock from the last time to the next one.
+#[inline(always)]
+fn time_words(last: i64, time: i64) -> usize {
+    match last ^ time {
+        0 => 0,
+        0x1..=0xfff => 1,
+        0x1000..=0xff_ffff => 2,
+        _ => {
+            let mut words = 0;
+            put_time(last, time, |_| words += 1);
+            words
+        }
+    }
+}
+
+/// Puts the words that bring the clock from the last time to a later one.
+#[inline(always)]
+fn put_time(last: i64, time: i64, mut put: impl FnMut(u32)) {
+    let part = |time: i64| (time >> 12 & 0xfff) as u32;
+    if last >> 12 != time >> 12 {
+        let mut high = (last != NO_TIME).then(|| part(last));
+        for _ in last.max(0) >> 24..time >> 24 {
+            if high != Some(0xfff) {
+                put(0x8 << 12 | 0xfff);
+            }
+            put(0x8 << 12);
+            high = Some(0);
+        }
+        if high != Some(part(time)) {
+            put(0x8 << 12 | part(time));
+        }
+    }
+    put(0x6 << 12 | (time & 0xfff) as u32);
+}
+
+/// Writes the words of a list that was judged; the buffer is just as long as they are.
+fn spell(rows: &[Row], out: &mut [[u8; 2]]) {
+    let mut out = out.iter_mut();
+    let mut put = |word: u32| {
+        if let Some(out) = out.next() {
+            *out = (word as u16).to_le_bytes();
+        }
+    };
+    let (mut time, mut line, mut rest) = (NO_TIME, NO_LINE, rows);
+    while let Some((row, next)) = rest.split_first() {
+        let now = time_of(row) as i64;
+        if now != time {
+            put_time(time, now, &mut put);
+            time = now;
+        }
+        let &[kind, _, _, a, b, ..] = row;
+        if kind == 2 {
+            put(0xa << 12 | a << 8 | b);
+            rest = next;
+            continue;
+        }
+        if b != line {
+            put(b);
+            line = b;
+        }
+        rest = spell_columns(row, next, &mut put);
+    }
+}
+
+/// Puts the words for the columns of the group that begins with a row, and hands back the rows after it.
+#[inline(always)]
+fn spell_columns<'r>(first: &'r Row, mut rest: &'r [Row], mut put: impl FnMut(u32)) -> &'r [Row] {
+    let polarity = first[5] << 11;
+    // answers whether the pixels were put as a vector
+    let mut put_pixels = |base: u32, bits: u32, open: bool| {
+        match (open, bits) {
+            (false, 1) => {
+                put(0x2 << 12 | polarity | base);
+                return false;
+            }
+            (false, _) => put(0x3 << 12 | polarity | base),
+            (true, _) => {}
+        }
+        put(0x4 << 12 | bits);
+        true
+    };
+    let (mut last, mut base, mut bits, mut open) = (first, first[3], 1, false);
+    while let Some((row, next)) = rest.split_first().filter(|(row, _)| joins(last, row)) {
+        let x = row[3];
+        if x - base < COLUMNS {
+            bits |= 1 << (x - base);
+        } else {
+            open = put_pixels(base, bits, open) && x - base < 2 * COLUMNS;
+            base = if open { base + COLUMNS } else { x };
+            bits = 1 << (x - base);
+        }
+        (last, rest) = (row, next);
+    }
+    put_pixels(base, bits, open);
+    rest
 }

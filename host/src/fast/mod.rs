@@ -37,8 +37,8 @@ type Row = [u32; 10];
 fn write<const N: usize>(
     rows: &[u32],
     out: &mut [u8],
-    judge: fn(&[Row]) -> Result<usize, RowFault>,
-    spell: fn(&[Row], &mut [[u8; N]]),
+    judge: impl Fn(&[Row]) -> Result<usize, RowFault>,
+    spell: impl Fn(&[Row], &mut [[u8; N]]),
 ) -> Result<usize, RowFault> {
     let (rows, rest) = rows.as_chunks();
     if !rest.is_empty() || rows.len() > MOST_ROWS {
@@ -52,9 +52,22 @@ fn write<const N: usize>(
     Ok(words)
 }
 
-/// Whether a row has no bit set that is never set in its numbers from the third on.
+/// The bits that no row of a kind has set in its numbers from the third on, if a format can write it.
+type Never = [u32; 8];
+
+/// The upper half of the time, and a number that is not used.
+const HIGH: u32 = !3;
+const NONE: u32 = !0;
+
+const PIXEL: Never = [HIGH, !(SIDE - 1), !(SIDE - 1), !1, NONE, NONE, NONE, NONE];
+
+/// A trigger in a format of so many channels, which are a power of two.
+const fn trigger(channels: u32) -> Never {
+    [HIGH, !(channels - 1), !1, NONE, NONE, NONE, NONE, NONE]
+}
+
 #[inline(always)]
-fn fits(row: &Row, never: &[u32; 8]) -> bool {
+fn fits(row: &Row, never: &Never) -> bool {
     // all numbers at once: the compiler makes vector instructions of this
     row[2..].iter().zip(never).fold(0, |over, (number, never)| over | number & never) == 0
 }

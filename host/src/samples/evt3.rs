@@ -27,11 +27,12 @@ pub const ALL_WRAPS: &[u16] = &{
 
 /// Any time before the first wrap, or one from which a wrap, 2^32 or the last time is soon reached.
 pub fn a_start(numbers: &mut Numbers) -> u64 {
-    let (any, before) = (u64::from(numbers.below(1 << 24)), u64::from(numbers.below(64)));
-    numbers.one_of(&[any, (1 << 24) - before, (3 << 24) - before, (1 << 32) - before, LAST_TIME - before])
+    let (any, wraps) = (u64::from(numbers.below(1 << 24)), numbers.one_of(&[1, 1, 1, 1, 1, 1, 1, 2, 2, 2, 3, 3, 3, 4, 256, 1_024]));
+    let soon = (wraps << 24) - 1 - u64::from(numbers.below(64));
+    numbers.one_of(&[any, soon])
 }
 
-/// At least so many rows that can be written. The first is at `start` or a little later, and time does not go on past the last one.
+/// At least so many rows that can be written. The first is later than `start`, and time does not go on past the last one.
 pub fn list(scene: Scene, picture: Picture, start: u64, events: usize, numbers: &mut Numbers) -> Vec<[u32; 10]> {
     let (mut rows, mut time) = (vec![], start);
     while rows.len() < events {
@@ -52,9 +53,9 @@ fn see(scene: Scene, picture: Picture, time: u64, rows: &mut Vec<[u32; 10]>, num
         Scene::Dense => lines(picture, time, |numbers| if numbers.once_in(16) { 2 + numbers.below(20) } else { 1 }, rows, numbers),
         Scene::Sparse => lines(picture, time, |numbers| 1 + numbers.below(30), rows, numbers),
         Scene::Mixed => match numbers.below(32) {
-            0 => rows.push(trigger(time, numbers.below(16), numbers.below(2))),
-            1..=3 => see(Scene::Dense, picture, time, rows, numbers),
-            4..=8 => see(Scene::Sparse, picture, time, rows, numbers),
+            0..=3 => rows.push(trigger(time, numbers.below(16), numbers.below(2))),
+            4..=6 => see(Scene::Dense, picture, time, rows, numbers),
+            7..=11 => see(Scene::Sparse, picture, time, rows, numbers),
             _ => see(Scene::Pixels, picture, time, rows, numbers),
         },
     }

@@ -173,11 +173,11 @@ pub fn groups(rows: &[Row]) -> Vec<&[Row]> {
 fn spelling(rows: &[Row]) -> Vec<Word> {
     let (mut words, mut last_time, mut last_y) = (vec![], None, None);
     for group in groups(rows) {
-        let &[kind, _, _, a, b, ..] = &group[0];
-        let time = Some(time_of(&group[0]));
-        if last_time != time {
-            words.extend(time_words(last_time, time_of(&group[0])));
-            last_time = time;
+        let [kind, _, _, a, b, ..] = group[0];
+        let time = time_of(&group[0]);
+        if last_time != Some(time) {
+            words.extend(time_words(last_time, time));
+            last_time = Some(time);
         }
         if kind == 2 {
             words.push(Word { kind: TRIGGER, data: 256 * a + b });

@@ -1,0 +1,134 @@
+-- The words of a time and of a pixel, written one after the other.
+use mathlib.Core.Path.{_≡_, refl, sym, _∙_, ap, subst}
+use Prim.Native.Nat.{ℕ, zero, suc, _+_, _-_, _*_, _%_, _≤_, _<_}
+use native.Mathlib.Omega.{arith}
+use mathlib.Core.Bool.{Bool, true, false, _&&_}
+use mathlib.Core.List.{List, [], _∷_, _++_, append-nil}
+use lib.ListN.{length}
+use lib.Dec.{eqb}
+use Rattle.rows.specs.declared.row.Row.{Row}
+use Rattle.words.specs.Writer.{PutWords}
+use Rattle.words.proofs.Writes.{put-both, Writes, writes-start, writes-fit, writes-more, writes-done}
+use Rattle.evt3.specs.declared.base.Ahead.{Ahead}
+use Rattle.evt3.specs.declared.base.Base.{Base}
+use Rattle.evt3.specs.declared.base.Column.{Column}
+use Rattle.evt3.specs.declared.told.Told.{Told}
+use Rattle.evt3.specs.Spelling.{yWord, lowWord, highWord, unless, highWords, wrapsOf, highOf, timeWords}
+use Rattle.evt3.specs.Walk.{leadWords, vectorWords, pixelWords}
+
+-- the last words of some have room where all have
+last-fit : {ws old : List ℕ} {at : ℕ} (new : List ℕ) {to : ℕ} {buf : List ℕ} → Writes 2 ws old at new to buf → at + length ws * 2 ≤ length old → to + length new * 2 ≤ length buf
+last-fit {ws} {old} {at} new {to} {buf} h room =
+    writes-fit new [] (subst (λ (l : List ℕ). Writes 2 ws old at l to buf) (sym (append-nil new)) h) room
+
+last-put : {ws old : List ℕ} {at : ℕ} (new : List ℕ) {to end : ℕ} {buf buf′ : List ℕ} → Writes 2 ws old at new to buf → PutWords 2 new buf to buf′ end → PutWords 2 ws old at buf′ end
+last-put {ws} {old} {at} new {to} {end} {buf} h p =
+    writes-done (writes-more new (subst (λ (l : List ℕ). Writes 2 ws old at l to buf) (sym (append-nil new)) h) p)
+
+high-more : (n : ℕ) (known : Bool) (old high : ℕ) → 0 < n
+    → highWords n known old high ≡ unless (known && eqb old 4095) (highWord 4095) ++ (highWord 0 ∷ highWords (n - 1) true 0 high)
+unfolding highWords
+high-more zero known old high h = absurd (omega arith)
+high-more (suc n) known old high h =
+    let e : n ≡ suc n - 1 = omega arith in
+    ap (λ (k : ℕ). unless (known && eqb old 4095) (highWord 4095) ++ (highWord 0 ∷ highWords k true 0 high)) e
+
+-- the loop over the wraps: the words from a high part on are to come
+pub record Climbing (ws old : List ℕ) (at left : ℕ) (set : Bool) (from high to : ℕ) (buf : List ℕ) : Type 0 where
+  pub writes : Writes 2 ws old at (highWords left set from high) to buf
+
+module _ {ws old : List ℕ} {at left : ℕ} {set : Bool} {from high to : ℕ} {buf : List ℕ} (h : Climbing ws old at left set from high to buf)
+    (room : at + length ws * 2 ≤ length old) {k : Bool} where
+  -- one more wrap
+  module _ (some : 0 < left) (e : k ≡ set && eqb from 4095) where
+    wrap-here : Writes 2 ws old at (unless k (highWord 4095) ++ (highWord 0 ∷ highWords (left - 1) true 0 high)) to buf
+    wrap-here =
+        subst (λ (t : Bool). Writes 2 ws old at (unless t (highWord 4095) ++ (highWord 0 ∷ highWords (left - 1) true 0 high)) to buf) (sym e)
+        (subst (λ (l : List ℕ). Writes 2 ws old at l to buf) (high-more left set from high some) (h .writes))
+
+    pub first-fits : to + length (unless k (highWord 4095)) * 2 ≤ length buf
+    first-fits = writes-fit (unless k (highWord 4095)) (highWord 0 ∷ highWords (left - 1) true 0 high) wrap-here room
+
+    module _ {to₁ : ℕ} {buf₁ : List ℕ} (p : PutWords 2 (unless k (highWord 4095)) buf to buf₁ to₁) where
+      pub zero-fits : to₁ + 2 ≤ length buf₁
+      zero-fits = writes-fit (highWord 0 ∷ []) (highWords (left - 1) true 0 high) (writes-more (unless k (highWord 4095)) wrap-here p) room
+
+      pub wrapped : {to₂ : ℕ} {buf₂ : List ℕ} → PutWords 2 (highWord 0 ∷ []) buf₁ to₁ buf₂ to₂ → Climbing ws old at (left - 1) true 0 high to₂ buf₂
+      wrapped q = record { writes = writes-more (highWord 0 ∷ []) (writes-more (unless k (highWord 4095)) wrap-here p) q }
+
+  -- none is left
+  module _ (none : left ≤ 0) (e : k ≡ set && eqb from high) where
+    high-here : Writes 2 ws old at (unless k (highWord high)) to buf
+    unfolding highWords
+    high-here =
+        let z : left ≡ 0 = omega (arith, none) in
+        subst (λ (t : Bool). Writes 2 ws old at (unless t (highWord high)) to buf) (sym e)
+        (subst (λ (n : ℕ). Writes 2 ws old at (highWords n set from high) to buf) z (h .writes))
+
+    pub high-fits : to + length (unless k (highWord high)) * 2 ≤ length buf
+    high-fits = last-fit (unless k (highWord high)) high-here room
+
+    pub high-put : {end : ℕ} {buf′ : List ℕ} → PutWords 2 (unless k (highWord high)) buf to buf′ end → PutWords 2 ws old at buf′ end
+    high-put p = last-put (unless k (highWord high)) high-here p
+
+-- a new time: its high part, and LOW
+abbrev high-part : Told → ℕ → ℕ → List ℕ
+high-part told time n = highWords n (told .timed) (highOf (told .time)) (highOf time)
+
+module _ (told : Told) (time : ℕ) (old : List ℕ) (at : ℕ) {n : ℕ} (new : told .timed && eqb (told .time) time ≡ false) (is : n ≡ wrapsOf time - wrapsOf (told .time))
+    (room : at + length (timeWords (told .timed) (told .time) time) * 2 ≤ length old) where
+  both-parts : timeWords (told .timed) (told .time) time ≡ high-part told time n ++ (lowWord (time % 4096) ∷ [])
+  unfolding timeWords
+  both-parts = rw (new, is)
+
+  time-here : Writes 2 (timeWords (told .timed) (told .time) time) old at (high-part told time n ++ (lowWord (time % 4096) ∷ [])) at old
+  time-here =
+      subst (λ (l : List ℕ). Writes 2 (timeWords (told .timed) (told .time) time) old at l at old) both-parts
+      (writes-start 2 (timeWords (told .timed) (told .time) time) old at)
+
+  pub high-part-fits : at + length (highWords n (told .timed) (highOf (told .time)) (highOf time)) * 2 ≤ length old
+  high-part-fits = writes-fit (high-part told time n) (lowWord (time % 4096) ∷ []) time-here room
+
+  module _ {to : ℕ} {buf : List ℕ} (p : PutWords 2 (highWords n (told .timed) (highOf (told .time)) (highOf time)) old at buf to) where
+    low-here : Writes 2 (timeWords (told .timed) (told .time) time) old at (lowWord (time % 4096) ∷ []) to buf
+    low-here = writes-more (high-part told time n) time-here p
+
+    pub low-fits : to + 2 ≤ length buf
+    low-fits = last-fit (lowWord (time % 4096) ∷ []) low-here room
+
+    pub time-put : {end : ℕ} {buf′ : List ℕ} → PutWords 2 (lowWord (time % 4096) ∷ []) buf to buf′ end → PutWords 2 (timeWords (told .timed) (told .time) time) old at buf′ end
+    time-put q = last-put (lowWord (time % 4096) ∷ []) low-here q
+
+-- the type of ADDR_Y is 0
+y-type : (y : ℕ) → yWord y ≡ y
+y-type y = omega arith
+
+-- a pixel: its line, its column's own word, and the vector in hand
+module _ (told : Told) (column : Column) (held : Base) (r : Row) (a : Ahead) (old : List ℕ) (at : ℕ) {k : Bool}
+    (e : k ≡ told .lined && eqb (told .y) (r .b)) (room : at + length (pixelWords told column held r a) * 2 ≤ length old) where
+  pixel-here : Writes 2 (pixelWords told column held r a) old at (unless k (r .b) ++ (leadWords column (r .c) (r .a) ++ vectorWords held a)) at old
+  unfolding pixelWords
+  pixel-here =
+      subst (λ (w : ℕ). Writes 2 (pixelWords told column held r a) old at (unless k w ++ (leadWords column (r .c) (r .a) ++ vectorWords held a)) at old) (y-type (r .b))
+      (subst (λ (t : Bool). Writes 2 (pixelWords told column held r a) old at (unless t (yWord (r .b)) ++ (leadWords column (r .c) (r .a) ++ vectorWords held a)) at old)
+      (sym e) (writes-start 2 (pixelWords told column held r a) old at))
+
+  pub line-fits : at + length (unless k (r .b)) * 2 ≤ length old
+  line-fits = writes-fit (unless k (r .b)) (leadWords column (r .c) (r .a) ++ vectorWords held a) pixel-here room
+
+  module _ {at₁ : ℕ} {buf₁ : List ℕ} (p : PutWords 2 (unless k (r .b)) old at buf₁ at₁) where
+    lead-here : Writes 2 (pixelWords told column held r a) old at (leadWords column (r .c) (r .a) ++ vectorWords held a) at₁ buf₁
+    lead-here = writes-more (unless k (r .b)) pixel-here p
+
+    pub lead-fits : at₁ + length (leadWords column (r .c) (r .a)) * 2 ≤ length buf₁
+    lead-fits = writes-fit (leadWords column (r .c) (r .a)) (vectorWords held a) lead-here room
+
+    module _ {at₂ : ℕ} {buf₂ : List ℕ} (q : PutWords 2 (leadWords column (r .c) (r .a)) buf₁ at₁ buf₂ at₂) where
+      vector-here : Writes 2 (pixelWords told column held r a) old at (vectorWords held a) at₂ buf₂
+      vector-here = writes-more (leadWords column (r .c) (r .a)) lead-here q
+
+      pub vector-fits : at₂ + length (vectorWords held a) * 2 ≤ length buf₂
+      vector-fits = last-fit (vectorWords held a) vector-here room
+
+      pub pixel-put : {end : ℕ} {buf : List ℕ} → PutWords 2 (vectorWords held a) buf₂ at₂ buf end → PutWords 2 (pixelWords told column held r a) old at buf end
+      pixel-put s = last-put (vectorWords held a) vector-here s

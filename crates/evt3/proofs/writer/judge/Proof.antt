@@ -1,0 +1,54 @@
+-- `evt3::writer::judge` meets its contract.
+use Rattle.evt3.proofs.OtherRows.{not-writable}
+use Rattle.evt3.specs.Spelling.{writable, writableAs}
+use Rattle.rows.proofs.Judged.{judged-kind, judged-wordless}
+use borrow.Author.Tests.{lt-ltb, le-ltb}
+use mathlib.Core.Path.{refl, sym, _∙_}
+use borrow.Author.Needs.{needs}
+use Rattle.evt3.proofs.writer.judge.Statement.{statement}
+use Rattle.evt3.proofs.writer.judge.Tie as tie
+
+of-requires : tie.Need-of-requires
+of-requires c κs = search needs
+
+enum-told : tie.Need-enum-told
+enum-told c = search needs
+
+judge-requires : tie.Need-judge-requires
+judge-requires c κs = search needs
+
+returns : tie.Need-returns
+unfolding writable
+returns c = c .judge .ensures ∙ judged-kind writableAs (c .before .before .before .before .before .before .before .args .row) (c .before .before .before .before .before .before .before .args .last) (sym (c .before .before .before .before .before .before .of .ensures) ∙ c .before .before .before .before .enum-told .given .1) (rw (lt-ltb _ _ (c .before .before .if1 .taken)))
+
+enum-told-2 : tie.Need-enum-told-2
+enum-told-2 c = search needs
+
+judge-requires-2 : tie.Need-judge-requires-2
+judge-requires-2 c κs = search needs
+
+returns-2 : tie.Need-returns-2
+unfolding writable
+returns-2 c = judged-wordless writableAs (c .before .before .before .before .before .args .row) (c .before .before .before .before .before .args .last) (sym (c .before .before .before .before .of .ensures) ∙ c .before .before .enum-told .given .1) (rw (le-ltb _ _ (c .if1 .left)))
+
+returns-3 : tie.Need-returns-3
+unfolding writable
+returns-3 c = c .judge2 .ensures ∙ judged-kind writableAs (c .before .before .before .before .before .args .row) (c .before .before .before .before .before .args .last) (sym (c .before .before .before .before .of .ensures) ∙ c .before .before .enum-told2 .given .1) refl
+
+returns-4 : tie.Need-returns-4
+unfolding writable
+returns-4 c = judged-wordless writableAs (c .before .before .args .row) (c .before .before .args .last) (sym (c .before .of .ensures)) (not-writable (c .before .of .result) (c .before .before .args .row) (c .match .keys3))
+
+pub judge-spec : {M : Type 1} → statement M
+judge-spec =
+    tie.close
+    (tie.spec
+    of-requires
+    enum-told
+    judge-requires
+    returns
+    enum-told-2
+    judge-requires-2
+    returns-2
+    returns-3
+    returns-4)

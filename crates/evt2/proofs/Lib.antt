@@ -2,7 +2,7 @@
 pub mod GoodRead
 pub mod Kept
 pub mod ReadBack
-pub mod Returned
+pub mod RowSteps
 pub mod Spelled
 pub mod SpelledSteps
 pub mod Steps

@@ -4,7 +4,7 @@ use mathlib.Core.Logic.{_⊎_, inl, inr, ⊎-elim}
 use Prim.Native.Nat.{ℕ, _+_, _*_, _/_, _≤_, _<_}
 use native.Mathlib.Omega.{arith}
 use mathlib.Core.Bool.{Bool, true, false, cond, _&&_}
-use mathlib.Core.List.{List, [], _∷_, _++_}
+use mathlib.Core.List.{List, [], _∷_}
 use lib.Dec.{ltb, eqb}
 use borrow.Author.Tests.{ltb-true, eqb-true}
 use Rattle.rows.specs.declared.row.Row.{Row}
@@ -17,13 +17,12 @@ use Rattle.rows.proofs.GoodRows.{and-first, and-second}
 use Rattle.rows.proofs.Kept.{good-is-made}
 use Rattle.rows.proofs.Lists.{AllNarrow}
 use Rattle.words.specs.Fields.{typed}
-use Rattle.words.specs.Promises.{Small}
-use Rattle.words.proofs.ReadBack.{Leads, leads-none, leads-word, leads-both}
+use Rattle.words.proofs.ReadBack.{Leads, leads-word, leads-both, Goes, goes-none, goes-word, goes-both}
 use Rattle.evt2.specs.declared.state.State.{State}
-use Rattle.evt2.specs.State.{withHigh, begun, further}
+use Rattle.evt2.specs.State.{begun, further}
 use Rattle.evt2.specs.Words.{countsOf, groupRow}
 use Rattle.evt2.specs.Reader.{machine}
-use Rattle.evt2.specs.Spelling.{writable, writableAs, lowTimed, countWord, eventAs, eventWords, clockWords, wordsFrom}
+use Rattle.evt2.specs.Spelling.{writable, writableAs, lowTimed, countWord, eventAs, clockWords, wordsFrom}
 use Rattle.evt2.proofs.SpelledSteps.{widest, time-back, count-back, clock-step, pixel-step, trigger-step, imu-step, more-step, last-step}
 
 -- a reader outside a group whose clock shows a high part, if one was told
@@ -32,16 +31,9 @@ pub record Shows (told : Bool) (high : ℕ) (s : State) : Type 0 where
   pub known : s .known ≡ told
   pub shown : told ≡ true → s .high ≡ high
 
--- words of 32 bits that give rows to a reader, whose clock then shows a high part
-pub record Goes (ws : List ℕ) (s : State) (at : ℕ) (rs : List Row) (high : ℕ) : Type 0 where
-  pub state : State
-  pub place : ℕ
-  pub leads : Leads (machine widest) ws s at rs state place
-  pub shows : Shows true high state
-  pub small : Small 4 ws
-
 -- a high part
-clock-goes : (told : Bool) (old high : ℕ) (s : State) (at : ℕ) → Shows told old s → (told ≡ true → old ≤ high) → high < 268435456 → Goes (clockWords told old high) s at [] high
+clock-goes : (told : Bool) (old high : ℕ) (s : State) (at : ℕ) → Shows told old s → (told ≡ true → old ≤ high) → high < 268435456
+    → Goes (machine widest) (clockWords told old high) s at [] (Shows true high)
 unfolding clockWords
 clock-goes told old high s at h g small = go (told && eqb old high) refl
   where
@@ -50,24 +42,11 @@ clock-goes told old high s at h g small = go (told && eqb old high) refl
         let is : told ≡ true = sym (h .known) ∙ e in
         subst (λ (n : ℕ). n ≤ high) (sym (h .shown is)) (g is)
 
-    go : (t : Bool) → told && eqb old high ≡ t → Goes (cond t [] (typed 28 8 high ∷ [])) s at [] high
+    go : (t : Bool) → told && eqb old high ≡ t → Goes (machine widest) (cond t [] (typed 28 8 high ∷ [])) s at [] (Shows true high)
     go true e =
         let is : told ≡ true = and-first told (eqb old high) e in
-        record {
-          state = s;
-          place = at;
-          leads = leads-none (machine widest) s at;
-          shows = record { free = h .free; known = h .known ∙ is; shown = λ k. h .shown is ∙ eqb-true old high (and-second told (eqb old high) e) };
-          small = tt;
-        }
-    go false e =
-        record {
-          state = withHigh s high;
-          place = at + 4;
-          leads = leads-word (clock-step s at (h .free) high small not-before);
-          shows = record { free = h .free; known = refl; shown = λ k. refl };
-          small = (omega arith, tt);
-        }
+        goes-none (record { free = h .free; known = h .known ∙ is; shown = λ k. h .shown is ∙ eqb-true old high (and-second told (eqb old high) e) })
+    go false e = goes-word (omega arith) (clock-step s at (h .free) high small not-before) (record { free = h .free; known = refl; shown = λ k. refl })
 
 -- an event, at the high part that the clock shows
 module _ (r : Row) (good : goodRow r ≡ true) (can : writable r ≡ true) (narrow : r .low < 4294967296) where
@@ -99,7 +78,7 @@ module _ (r : Row) (good : goodRow r ≡ true) (can : writable r ≡ true) (narr
 
   module _ (s : State) (at : ℕ) (h : Shows true (timeOf r / 64) s) where
     abbrev Event-goes : Kind → Type 0
-    Event-goes k = Goes (eventAs k r) s at (r ∷ []) (timeOf r / 64)
+    Event-goes k = Goes (machine widest) (eventAs k r) s at (r ∷ []) (Shows true (timeOf r / 64))
 
     pixel-goes : r .kind ≡ 1 → kindOf (r .kind) ≡ Pixel → Event-goes Pixel
     unfolding eventAs
@@ -109,25 +88,13 @@ module _ (r : Row) (good : goodRow r ≡ true) (can : writable r ≡ true) (narr
         let x : r .a < 2048 = ltb-true _ _ (and-first (ltb (r .a) 2048) _ within) in
         let y : r .b < 2048 = ltb-true _ _ (and-second (ltb (r .a) 2048) _ within) in
         let p : r .c < 2 = m .4 in
-        record {
-          state = s;
-          place = at + 4;
-          leads = leads-word (pixel-step s at (h .free) (h .known) r (h .shown refl) (m .0) x y p);
-          shows = h;
-          small = (omega (arith, x, y, p), tt);
-        }
+        goes-word (omega (arith, x, y, p)) (pixel-step s at (h .free) (h .known) r (h .shown refl) (m .0) x y p) h
 
     trigger-goes : r .kind ≡ 2 → Event-goes Trigger
     unfolding eventAs
     trigger-goes k =
         let m = made .trigger k in
-        record {
-          state = s;
-          place = at + 4;
-          leads = leads-word (trigger-step s at (h .free) (h .known) r (h .shown refl) (m .0) (m .2) (m .3));
-          shows = h;
-          small = (omega (arith, m .2, m .3), tt);
-        }
+        goes-word (omega (arith, m .2, m .3)) (trigger-step s at (h .free) (h .known) r (h .shown refl) (m .0) (m .2) (m .3)) h
 
     -- the words of an IMU reading, and the states between them
     abbrev first : ℕ
@@ -185,7 +152,7 @@ module _ (r : Row) (good : goodRow r ≡ true) (can : writable r ≡ true) (narr
               (leads-both (leads-word (more-step s₃ (at + 4 + 4 + 4) refl (lowTimed r (r .d * 2)) (fits (r .d) (m .5)) refl))
               (leads-both (leads-word (more-step s₄ (at + 4 + 4 + 4 + 4) refl (lowTimed r (r .e * 2)) (fits (r .e) (m .6)) refl))
               (leads-word (last-step s₅ (at + 4 + 4 + 4 + 4 + 4) refl (lowTimed r (r .f * 2)) (fits (r .f) (m .7)) refl)))))));
-          shows = record { free = refl; known = h .known; shown = h .shown };
+          holds = record { free = refl; known = h .known; shown = h .shown };
           small = (
             omega (arith, fits (r .a) (m .2)),
             (
@@ -198,42 +165,20 @@ module _ (r : Row) (good : goodRow r ≡ true) (can : writable r ≡ true) (narr
           );
         }
 
-    event-goes : Goes (eventWords r) s at (r ∷ []) (timeOf r / 64)
+    event-goes : Event-goes (kindOf (r .kind))
     unfolding kindOf
     event-goes =
         ⊎-elim (λ k. let e : kindOf (r .kind) ≡ Pixel = ap kindOf k in subst Event-goes (sym e) (pixel-goes k e))
         (⊎-elim (λ k. subst Event-goes (sym (ap kindOf k)) (trigger-goes k)) (λ k. subst Event-goes (sym (ap kindOf k)) (counts-goes k)))
         sort
 
-small-both : (a b : List ℕ) → Small 4 a → Small 4 b → Small 4 (a ++ b)
-small-both [] b h g = g
-small-both (w ∷ a) b h g = (h .0, small-both a b (h .1) g)
-
--- all of a writable list, to a reader outside a group
-pub record Back (ws : List ℕ) (s : State) (at : ℕ) (rs : List Row) : Type 0 where
-  pub state : State
-  pub place : ℕ
-  pub leads : Leads (machine widest) ws s at rs state place
-  pub free : state .left ≡ 0
-  pub small : Small 4 ws
-
+-- all of a writable list, to a reader that is then outside a group
 pub rows-back : (rs : List Row) (told : Bool) (last : ℕ) (s : State) (at : ℕ) → Writable writable last rs → AllNarrow rs → Shows told (last / 64) s
-    → Back (wordsFrom told (last / 64) rs) s at rs
+    → Goes (machine widest) (wordsFrom told (last / 64) rs) s at rs (λ s′. s′ .left ≡ 0)
 unfolding wordsFrom
-rows-back [] told last s at w n h = record { state = s; place = at; leads = leads-none (machine widest) s at; free = h .free; small = tt }
+rows-back [] told last s at w n h = goes-none (h .free)
 rows-back (r ∷ rs) told last s at w n h =
     let time : timeOf r < 17179869184 = in-time r (w .0) (w .1) (n .0) in
     let later : last ≤ timeOf r = w .2 in
-    let clock : Goes (clockWords told (last / 64) (timeOf r / 64)) s at [] (timeOf r / 64) =
-    clock-goes told (last / 64) (timeOf r / 64) s at h (λ e. omega (arith, later)) (omega (arith, time)) in
-    let event : Goes (eventWords r) (clock .state) (clock .place) (r ∷ []) (timeOf r / 64) =
-    event-goes r (w .0) (w .1) (n .0) (clock .state) (clock .place) (clock .shows) in
-    let rest : Back (wordsFrom true (timeOf r / 64) rs) (event .state) (event .place) rs =
-    rows-back rs true (timeOf r) (event .state) (event .place) (w .3) (n .1) (event .shows) in
-    record {
-      state = rest .state;
-      place = rest .place;
-      leads = leads-both (clock .leads) (leads-both (event .leads) (rest .leads));
-      free = rest .free;
-      small = small-both (clockWords told (last / 64) (timeOf r / 64)) (eventWords r ++ wordsFrom true (timeOf r / 64) rs) (clock .small) (small-both (eventWords r) (wordsFrom true (timeOf r / 64) rs) (event .small) (rest .small));
-    }
+    goes-both (clock-goes told (last / 64) (timeOf r / 64) s at h (λ e. omega (arith, later)) (omega (arith, time))) (λ s₁ at₁ h₁.
+    goes-both (event-goes r (w .0) (w .1) (n .0) s₁ at₁ h₁) (λ s₂ at₂ h₂. rows-back rs true (timeOf r) s₂ at₂ (w .3) (n .1) h₂))

@@ -1,7 +1,6 @@
 -- Definitions that the contracts cite, and the laws.
 pub mod Promises
 pub mod Reader
-pub mod RoundTrip
 pub mod Spelling
 pub mod State
 pub mod Words

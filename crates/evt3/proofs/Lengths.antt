@@ -1,5 +1,5 @@
--- How many words a time, a line, a column and a vector take, as the code counts them.
-use mathlib.Core.Path.{_≡_, refl, sym, _∙_, ap}
+-- How many words a time, the pixels in hand and a row take, as the code counts them.
+use mathlib.Core.Path.{_≡_, refl, _∙_, ap}
 use Prim.Native.Nat.{ℕ, zero, suc, _+_, _-_, _*_, _%_, _≤_}
 use native.Mathlib.Omega.{arith}
 use mathlib.Core.Bool.{Bool, true, false, cond, _&&_, not}
@@ -7,16 +7,13 @@ use mathlib.Core.List.{List, [], _∷_, _++_}
 use mir.Val.{boolByte}
 use lib.ListN.{length, length-append}
 use lib.Dec.{eqb}
-use borrow.Author.Tests.{ne-eqb}
+use borrow.Author.Tests.{eq-eqb, ne-eqb}
 use Rattle.rows.specs.declared.row.Row.{Row}
-use Rattle.evt3.specs.declared.base.Ahead.{Ahead}
-use Rattle.evt3.specs.declared.base.Base.{Base}
-use Rattle.evt3.specs.declared.base.Column.{Column}
-use Rattle.evt3.specs.declared.base.Column.the-variants.{Marked, Vector, Based, Single}
+use Rattle.rows.specs.declared.rules.Kind.{Kind}
+use Rattle.evt3.specs.declared.span.Span.{Span}
 use Rattle.evt3.specs.declared.told.Told.{Told}
-use Rattle.evt3.specs.Spelling.{vectorWord, lowWord, highWord, unless, highWords, wrapsOf, highOf, timeWords, yWords}
-use Rattle.evt3.specs.Walk.{leadWords, vectorEnds, vectorWords, pixelWords}
-use Rattle.evt3.proofs.SpelledLength.{y-short}
+use Rattle.evt3.specs.Spelling.{xWord, baseWord, vectorWord, lowWord, highWord, unless, highWords, wrapsOf, highOf, timeWords, yWords}
+use Rattle.evt3.specs.Walk.{spanWords, startWords, ownAs, otherWords}
 
 pub bool-small : (k : Bool) → boolByte k ≤ 1
 bool-small true = omega arith
@@ -52,48 +49,51 @@ high-some {k} (suc n) known old high h e =
     let is : boolByte (not k) ≡ length first = ap (λ (t : Bool). boolByte (not t)) e ∙ unless-length (known && eqb old 4095) (highWord 4095) in
     omega (arith, is, from-zero n high, length-append first (highWord 0 ∷ highWords n true 0 high))
 
--- a column's own word, and a vector
-pub lead-short : (c : Column) (p x : ℕ) → length (leadWords c p x) ≤ 1
-unfolding leadWords
-lead-short (Marked bits) p x = omega arith
-lead-short (Vector from bits) p x = omega arith
-lead-short Based p x = omega arith
-lead-short Single p x = omega arith
+-- the pixels in hand
+module _ (s : Span) where
+  pub span-none : s .bits ≡ 0 → spanWords s ≡ []
+  unfolding spanWords
+  span-none e = simp (eq-eqb (s .bits) 0 e)
 
-pub vector-length : {k : Bool} (b : Base) (a : Ahead) → k ≡ vectorEnds b a → boolByte k ≡ length (vectorWords b a)
-unfolding vectorWords
-vector-length b a e = ap boolByte e ∙ go (vectorEnds b a)
-  where
-    go : (t : Bool) → boolByte t ≡ length (cond t (vectorWord (b .bits) ∷ []) [])
-    go true = refl
-    go false = refl
+  module _ (some : s .bits ≡ 0 → ⊥) where
+    pub span-vector : s .known ≡ true → spanWords s ≡ vectorWord (s .bits) ∷ []
+    unfolding spanWords
+    span-vector e = simp (ne-eqb (s .bits) 0 some, e)
 
-pub vector-short : (b : Base) (a : Ahead) → length (vectorWords b a) ≤ 1
-vector-short b a = omega (arith, vector-length b a refl, bool-small (vectorEnds b a))
+    module _ (e : s .known ≡ false) where
+      pub span-single : s .bits ≡ 1 → spanWords s ≡ xWord (s .polarity) (s .base) ∷ []
+      unfolding spanWords
+      span-single f = simp (ne-eqb (s .bits) 0 some, e, eq-eqb (s .bits) 1 f)
 
--- a pixel after its time
-module _ (told : Told) (column : Column) (held : Base) (r : Row) (a : Ahead) {line lead vector : ℕ} where
-  pub pixel-length : line ≡ length (yWords (told .lined) (told .y) (r .b)) → ((p x : ℕ) → lead ≡ length (leadWords column p x)) → vector ≡ length (vectorWords held a)
-      → line + (lead + vector) ≡ length (pixelWords told column held r a)
-  unfolding pixelWords
-  pixel-length e f g =
-      let ys : List ℕ = yWords (told .lined) (told .y) (r .b) in
-      let own : List ℕ = leadWords column (r .c) (r .a) in
-      omega (arith, f (r .c) (r .a), length-append ys (own ++ vectorWords held a), length-append own (vectorWords held a))
+      pub span-based : (s .bits ≡ 1 → ⊥) → spanWords s ≡ baseWord (s .polarity) (s .base) ∷ vectorWord (s .bits) ∷ []
+      unfolding spanWords
+      span-based f = simp (ne-eqb (s .bits) 0 some, e, ne-eqb (s .bits) 1 f)
 
-pub pixel-short : (told : Told) (column : Column) (held : Base) (r : Row) (a : Ahead) → length (pixelWords told column held r a) ≤ 3
-unfolding pixelWords
-pixel-short told column held r a =
-    let ys : List ℕ = yWords (told .lined) (told .y) (r .b) in
-    let own : List ℕ = leadWords column (r .c) (r .a) in
-    omega (
-      arith,
-      length-append ys (own ++ vectorWords held a),
-      length-append own (vectorWords held a),
-      y-short (told .lined) (told .y) (r .b),
-      lead-short column (r .c) (r .a),
-      vector-short held a,
-    )
+  pub span-short : length (spanWords s) ≤ 2
+  unfolding spanWords
+  span-short = go (eqb (s .bits) 0) (s .known) (eqb (s .bits) 1)
+    where
+      go : (a b c : Bool) → length (cond a [] (cond b (vectorWord (s .bits) ∷ []) (cond c (xWord (s .polarity) (s .base) ∷ []) (baseWord (s .polarity) (s .base) ∷ vectorWord (s .bits) ∷ [])))) ≤ 2
+      go true b c = omega arith
+      go false true c = omega arith
+      go false false true = omega arith
+      go false false false = omega arith
+
+-- a new group, and any other row
+pub start-length : (told : Told) (s : Span) (time y : ℕ) {a b c : ℕ} → a ≡ length (spanWords s) → b ≡ length (timeWords (told .timed) (told .time) time)
+    → c ≡ length (yWords (told .lined) (told .y) y) → a + (b + c) ≡ length (startWords told s time y)
+unfolding startWords
+start-length told s time y e f g =
+    let ts : List ℕ = timeWords (told .timed) (told .time) time in
+    let ys : List ℕ = yWords (told .lined) (told .y) y in
+    omega (arith, length-append (spanWords s) (ts ++ ys), length-append ts ys)
+
+pub other-length : (told : Told) (s : Span) (time : ℕ) (k : Kind) (r : Row) {a b : ℕ} → a ≡ length (spanWords s) → b ≡ length (timeWords (told .timed) (told .time) time)
+    → a + b + length (ownAs k r) ≡ length (otherWords told s time k r)
+unfolding otherWords
+other-length told s time k r e f =
+    let ts : List ℕ = timeWords (told .timed) (told .time) time in
+    omega (arith, length-append (spanWords s) (ts ++ ownAs k r), length-append ts (ownAs k r))
 
 -- a new time
 pub time-length : (told : Told) (time : ℕ) {n high : ℕ} → told .timed && eqb (told .time) time ≡ false → n ≡ wrapsOf time - wrapsOf (told .time)

@@ -1,5 +1,4 @@
 -- Lemmas, and the laws proved (Kept).
-pub mod BaseSteps
 pub mod Bits
 pub mod Chosen
 pub mod ColumnCounts
@@ -18,6 +17,7 @@ pub mod PutSteps
 pub mod ReadBack
 pub mod RowRuns
 pub mod RowSteps
+pub mod SpanSteps
 pub mod SpelledLength
 pub mod SpelledSteps
 pub mod Steps

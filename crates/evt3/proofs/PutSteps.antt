@@ -1,5 +1,5 @@
--- The words of a time and of a pixel, written one after the other.
-use mathlib.Core.Path.{_≡_, refl, sym, _∙_, ap, subst}
+-- The words of a time, of the pixels in hand and of a row, written one after the other.
+use mathlib.Core.Path.{_≡_, sym, ap, ap₂, subst}
 use Prim.Native.Nat.{ℕ, zero, suc, _+_, _-_, _*_, _%_, _≤_, _<_}
 use native.Mathlib.Omega.{arith}
 use mathlib.Core.Bool.{Bool, true, false, _&&_}
@@ -7,21 +7,21 @@ use mathlib.Core.List.{List, [], _∷_, _++_, append-nil}
 use lib.ListN.{length}
 use lib.Dec.{eqb}
 use Rattle.rows.specs.declared.row.Row.{Row}
+use Rattle.rows.specs.declared.rules.Kind.{Kind}
 use Rattle.words.specs.Writer.{PutWords}
-use Rattle.words.proofs.Writes.{put-both, Writes, writes-start, writes-fit, writes-more, writes-done}
-use Rattle.evt3.specs.declared.base.Ahead.{Ahead}
-use Rattle.evt3.specs.declared.base.Base.{Base}
-use Rattle.evt3.specs.declared.base.Column.{Column}
+use Rattle.words.proofs.Writes.{put-both, put-length, Writes, writes-start, writes-fit, writes-more, writes-done}
+use Rattle.evt3.specs.declared.span.Span.{Span}
 use Rattle.evt3.specs.declared.told.Told.{Told}
-use Rattle.evt3.specs.Spelling.{yWord, lowWord, highWord, unless, highWords, wrapsOf, highOf, timeWords}
-use Rattle.evt3.specs.Walk.{leadWords, vectorWords, pixelWords}
+use Rattle.evt3.specs.Spelling.{yWord, baseWord, vectorWord, lowWord, highWord, unless, highWords, wrapsOf, highOf, timeWords}
+use Rattle.evt3.specs.Walk.{spanWords, startWords, ownAs, otherWords}
+use Rattle.evt3.proofs.Lengths.{span-based}
 
 -- the last words of some have room where all have
-last-fit : {ws old : List ℕ} {at : ℕ} (new : List ℕ) {to : ℕ} {buf : List ℕ} → Writes 2 ws old at new to buf → at + length ws * 2 ≤ length old → to + length new * 2 ≤ length buf
+pub last-fit : {ws old : List ℕ} {at : ℕ} (new : List ℕ) {to : ℕ} {buf : List ℕ} → Writes 2 ws old at new to buf → at + length ws * 2 ≤ length old → to + length new * 2 ≤ length buf
 last-fit {ws} {old} {at} new {to} {buf} h room =
     writes-fit new [] (subst (λ (l : List ℕ). Writes 2 ws old at l to buf) (sym (append-nil new)) h) room
 
-last-put : {ws old : List ℕ} {at : ℕ} (new : List ℕ) {to end : ℕ} {buf buf′ : List ℕ} → Writes 2 ws old at new to buf → PutWords 2 new buf to buf′ end → PutWords 2 ws old at buf′ end
+pub last-put : {ws old : List ℕ} {at : ℕ} (new : List ℕ) {to end : ℕ} {buf buf′ : List ℕ} → Writes 2 ws old at new to buf → PutWords 2 new buf to buf′ end → PutWords 2 ws old at buf′ end
 last-put {ws} {old} {at} new {to} {end} {buf} h p =
     writes-done (writes-more new (subst (λ (l : List ℕ). Writes 2 ws old at l to buf) (sym (append-nil new)) h) p)
 
@@ -103,32 +103,56 @@ module _ (told : Told) (time : ℕ) (old : List ℕ) (at : ℕ) {n : ℕ} (new :
 y-type : (y : ℕ) → yWord y ≡ y
 y-type y = omega arith
 
--- a pixel: its line, its column's own word, and the vector in hand
-module _ (told : Told) (column : Column) (held : Base) (r : Row) (a : Ahead) (old : List ℕ) (at : ℕ) {k : Bool}
-    (e : k ≡ told .lined && eqb (told .y) (r .b)) (room : at + length (pixelWords told column held r a) * 2 ≤ length old) where
-  pixel-here : Writes 2 (pixelWords told column held r a) old at (unless k (r .b) ++ (leadWords column (r .c) (r .a) ++ vectorWords held a)) at old
-  unfolding pixelWords
-  pixel-here =
-      subst (λ (w : ℕ). Writes 2 (pixelWords told column held r a) old at (unless k w ++ (leadWords column (r .c) (r .a) ++ vectorWords held a)) at old) (y-type (r .b))
-      (subst (λ (t : Bool). Writes 2 (pixelWords told column held r a) old at (unless t (yWord (r .b)) ++ (leadWords column (r .c) (r .a) ++ vectorWords held a)) at old)
-      (sym e) (writes-start 2 (pixelWords told column held r a) old at))
+-- a base and its vector
+module _ (s : Span) (some : s .bits ≡ 0 → ⊥) (e : s .known ≡ false) (more : s .bits ≡ 1 → ⊥) (old : List ℕ) (at : ℕ)
+    (room : at + length (spanWords s) * 2 ≤ length old) where
+  both-words : spanWords s ≡ baseWord (s .polarity) (s .base) ∷ vectorWord (s .bits) ∷ []
+  both-words = span-based s some e more
 
-  pub line-fits : at + length (unless k (r .b)) * 2 ≤ length old
-  line-fits = writes-fit (unless k (r .b)) (leadWords column (r .c) (r .a) ++ vectorWords held a) pixel-here room
+  pub base-fits : at + 2 ≤ length old
+  base-fits = omega (arith, room, ap length both-words)
 
-  module _ {at₁ : ℕ} {buf₁ : List ℕ} (p : PutWords 2 (unless k (r .b)) old at buf₁ at₁) where
-    lead-here : Writes 2 (pixelWords told column held r a) old at (leadWords column (r .c) (r .a) ++ vectorWords held a) at₁ buf₁
-    lead-here = writes-more (unless k (r .b)) pixel-here p
+  module _ {to : ℕ} {buf : List ℕ} (p : PutWords 2 (baseWord (s .polarity) (s .base) ∷ []) old at buf to) where
+    pub vector-fits : to + 2 ≤ length buf
+    vector-fits = omega (arith, room, ap length both-words, p .place, put-length p)
 
-    pub lead-fits : at₁ + length (leadWords column (r .c) (r .a)) * 2 ≤ length buf₁
-    lead-fits = writes-fit (leadWords column (r .c) (r .a)) (vectorWords held a) lead-here room
+    pub base-put : {end : ℕ} {buf′ : List ℕ} → PutWords 2 (vectorWord (s .bits) ∷ []) buf to buf′ end → PutWords 2 (spanWords s) old at buf′ end
+    base-put {end} {buf′} q = subst (λ (ws : List ℕ). PutWords 2 ws old at buf′ end) (sym both-words) (put-both p q)
 
-    module _ {at₂ : ℕ} {buf₂ : List ℕ} (q : PutWords 2 (leadWords column (r .c) (r .a)) buf₁ at₁ buf₂ at₂) where
-      vector-here : Writes 2 (pixelWords told column held r a) old at (vectorWords held a) at₂ buf₂
-      vector-here = writes-more (leadWords column (r .c) (r .a)) lead-here q
+-- the pixels in hand, a time, and words after it
+module _ (told : Told) (s : Span) (time : ℕ) (ws own old : List ℕ) (at : ℕ)
+    (same : ws ≡ spanWords s ++ (timeWords (told .timed) (told .time) time ++ own)) (room : at + length ws * 2 ≤ length old) where
+  span-here : Writes 2 ws old at (spanWords s ++ (timeWords (told .timed) (told .time) time ++ own)) at old
+  span-here = subst (λ (l : List ℕ). Writes 2 ws old at l at old) same (writes-start 2 ws old at)
 
-      pub vector-fits : at₂ + length (vectorWords held a) * 2 ≤ length buf₂
-      vector-fits = last-fit (vectorWords held a) vector-here room
+  pub span-fits : at + length (spanWords s) * 2 ≤ length old
+  span-fits = writes-fit (spanWords s) (timeWords (told .timed) (told .time) time ++ own) span-here room
 
-      pub pixel-put : {end : ℕ} {buf : List ℕ} → PutWords 2 (vectorWords held a) buf₂ at₂ buf end → PutWords 2 (pixelWords told column held r a) old at buf end
-      pixel-put s = last-put (vectorWords held a) vector-here s
+  module _ {at₁ : ℕ} {buf₁ : List ℕ} (p : PutWords 2 (spanWords s) old at buf₁ at₁) where
+    time-next : Writes 2 ws old at (timeWords (told .timed) (told .time) time ++ own) at₁ buf₁
+    time-next = writes-more (spanWords s) span-here p
+
+    pub time-fits : at₁ + length (timeWords (told .timed) (told .time) time) * 2 ≤ length buf₁
+    time-fits = writes-fit (timeWords (told .timed) (told .time) time) own time-next room
+
+    module _ {at₂ : ℕ} {buf₂ : List ℕ} (q : PutWords 2 (timeWords (told .timed) (told .time) time) buf₁ at₁ buf₂ at₂) where
+      own-here : Writes 2 ws old at own at₂ buf₂
+      own-here = writes-more (timeWords (told .timed) (told .time) time) time-next q
+
+      pub own-fits : at₂ + length own * 2 ≤ length buf₂
+      own-fits = last-fit own own-here room
+
+      pub own-put : {end : ℕ} {buf : List ℕ} → PutWords 2 own buf₂ at₂ buf end → PutWords 2 ws old at buf end
+      own-put r = last-put own own-here r
+
+-- the words of a new group, its line as the code has it, and of any other row
+pub start-words : (told : Told) (s : Span) (time y : ℕ) {k : Bool} → k ≡ told .lined && eqb (told .y) y
+    → startWords told s time y ≡ spanWords s ++ (timeWords (told .timed) (told .time) time ++ unless k y)
+unfolding startWords
+start-words told s time y e =
+    ap₂ (λ (t : Bool) (w : ℕ). spanWords s ++ (timeWords (told .timed) (told .time) time ++ unless t w)) (sym e) (y-type y)
+
+pub other-words : (told : Told) (s : Span) (time : ℕ) {k j : Kind} (r : Row) → k ≡ j
+    → otherWords told s time k r ≡ spanWords s ++ (timeWords (told .timed) (told .time) time ++ ownAs j r)
+unfolding otherWords
+other-words told s time r e = ap (λ (i : Kind). spanWords s ++ (timeWords (told .timed) (told .time) time ++ ownAs i r)) e

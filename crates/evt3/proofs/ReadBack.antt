@@ -6,22 +6,21 @@ use native.Mathlib.Omega.{arith}
 use mathlib.Core.Bool.{Bool, true, false, _&&_}
 use mathlib.Core.List.{List, [], _∷_}
 use lib.ListN.{length}
-use lib.Dec.{ltb, eqb, lit<}
-use borrow.Author.Tests.{eqb-true, le-ltb}
+use lib.Dec.{eqb, lit<}
+use borrow.Author.Tests.{eqb-true}
 use Rattle.rows.specs.declared.row.Row.{Row}
 use Rattle.rows.specs.declared.rules.Kind.{Kind}
 use Rattle.rows.specs.declared.rules.Kind.the-variants.{Pixel, Trigger, ImuCounts, ImuSingles, UsbPacket, Special, Other}
 use Rattle.rows.specs.Row.{timeOf, triggerRow, roomOf, rowsOf}
 use Rattle.rows.specs.Rules.{kindOf}
-use Rattle.rows.specs.Runs.{Run, Finishes}
+use Rattle.rows.specs.Runs.{Finishes}
 use Rattle.rows.proofs.GoodRows.{and-first, and-second}
 use Rattle.rows.proofs.Lists.{rows-of-length}
-use Rattle.words.specs.Machine.{next, Reached, reading}
-use Rattle.words.specs.Picture.{pictureOf, admissionOf}
-use Rattle.words.specs.Promises.{before}
-use Rattle.words.specs.Words.{Words, whole, bytesOfAll}
+use Rattle.words.specs.Machine.{next}
+use Rattle.words.specs.Picture.{pictureOf}
+use Rattle.words.specs.Words.{bytesOfAll}
 use Rattle.words.specs.Writer.{spelled}
-use Rattle.words.proofs.ReadBack.{Leads, leads-finishes, words-of-bytes}
+use Rattle.words.proofs.ReadBack.{Leads, Goes, goes-none, goes-word, goes-both, goes-finishes}
 use Rattle.evt3.specs.declared.state.State.{State}
 use Rattle.evt3.specs.declared.told.Told.{Told}
 use Rattle.evt3.specs.State.{fresh}
@@ -32,7 +31,7 @@ use Rattle.evt3.proofs.Chosen.{Rising}
 use Rattle.evt3.proofs.ColumnsBack.{based, Gives, read}
 use Rattle.evt3.proofs.Groups.{rowsAt, Pixels, Signal, GoodGroups}
 use Rattle.evt3.proofs.SpelledSteps.{widest, y-step, trigger-step}
-use Rattle.evt3.proofs.TimeBack.{Goes, goes-none, goes-word, goes-both, Knows, atTime, time-goes}
+use Rattle.evt3.proofs.TimeBack.{Knows, atTime, time-goes}
 
 -- what is told after pixels of a time and a line
 abbrev onLine : (time y : ℕ) → Told
@@ -40,10 +39,10 @@ onLine time y = record { time = time; y = y; timed = true; lined = true }
 
 -- ADDR_Y, if y is new
 y-goes : (told : Told) (time y : ℕ) (s : State) (at : ℕ) → y < 2048 → Knows (atTime told time) s
-    → Goes (yWords (told .lined) (told .y) y) s at [] (Knows (onLine time y))
+    → Goes (machine widest) (yWords (told .lined) (told .y) y) s at [] (Knows (onLine time y))
 y-goes told time y s at small h = go (told .lined && eqb (told .y) y) refl
   where
-    go : (t : Bool) → told .lined && eqb (told .y) y ≡ t → Goes (unless t (yWord y)) s at [] (Knows (onLine time y))
+    go : (t : Bool) → told .lined && eqb (told .y) y ≡ t → Goes (machine widest) (unless t (yWord y)) s at [] (Knows (onLine time y))
     go true e =
         let is : told .lined ≡ true = and-first (told .lined) (eqb (told .y) y) e in
         let same : told .y ≡ y = eqb-true (told .y) y (and-second (told .lined) (eqb (told .y) y) e) in
@@ -64,7 +63,7 @@ y-goes told time y s at small h = go (told .lined && eqb (told .y) y) refl
 
 -- the columns of a row group
 columns-go : (time y polarity : ℕ) (xs : List ℕ) (s : State) (at : ℕ) → y < 2048 → polarity < 2 → Rising 0 2048 xs → Knows (onLine time y) s
-    → Goes (columnWords polarity false 0 xs) s at (rowsAt time y polarity xs) (Knows (onLine time y))
+    → Goes (machine widest) (columnWords polarity false 0 xs) s at (rowsAt time y polarity xs) (Knows (onLine time y))
 columns-go time y polarity xs s at small sign rising h = go (read s polarity sign (h .isTimed) (h .clock .isLined) line 0 xs rising .closed at)
   where
     same-line : s .y ≡ y
@@ -77,7 +76,7 @@ columns-go time y polarity xs s at small sign rising h = go (read s polarity sig
     same = ap (λ (t : ℕ). rowsAt t (s .y) polarity xs) (h .isTime refl) ∙ ap (λ (v : ℕ). rowsAt time v polarity xs) same-line
 
     go : Gives s s at (columnWords polarity false 0 xs) (rowsAt (s .time) (s .y) polarity xs)
-        → Goes (columnWords polarity false 0 xs) s at (rowsAt time y polarity xs) (Knows (onLine time y))
+        → Goes (machine widest) (columnWords polarity false 0 xs) s at (rowsAt time y polarity xs) (Knows (onLine time y))
     go g =
         let c = h .clock in
         let end : State = based s (g .known) (g .base) (g .polarity) in
@@ -97,12 +96,12 @@ columns-go time y polarity xs s at small sign rising h = go (read s polarity sig
 -- a group, at its time
 module _ (told : Told) (since : ℕ) (g : Group) (s : State) (at : ℕ) (h : Knows (atTime told (timeOf (g .first))) s) where
   abbrev Group-goes : Kind → Type 0
-  Group-goes k = Goes (groupAs k told g) s at (g .first ∷ g .more) (Knows (toldAs k told (g .first)))
+  Group-goes k = Goes (machine widest) (groupAs k told g) s at (g .first ∷ g .more) (Knows (toldAs k told (g .first)))
 
   pixels-go : Pixels since g → Group-goes Pixel
   unfolding groupAs toldAs
   pixels-go p =
-      subst (λ (rs : List Row). Goes (groupAs Pixel told g) s at rs (Knows (toldAs Pixel told (g .first)))) (sym (p .rows))
+      subst (λ (rs : List Row). Goes (machine widest) (groupAs Pixel told g) s at rs (Knows (toldAs Pixel told (g .first)))) (sym (p .rows))
       (goes-both (y-goes told (timeOf (g .first)) (g .first .b) s at (p .line) h)
       (λ s₁ at₁ h₁. columns-go (timeOf (g .first)) (g .first .b) (g .first .c) (columnsOf (g .first ∷ g .more)) s₁ at₁ (p .line) (p .polarity) (p .rising) h₁))
 
@@ -131,8 +130,8 @@ told-time Special told r = refl
 told-time Other told r = refl
 
 -- groups, to a reader that knows what was told
-pub groups-back : (gs : List Group) (told : Told) (s : State) (at : ℕ) → GoodGroups (told .time) gs → Knows told s
-    → Goes (wordsFrom told gs) s at (rowsOfGroups gs) (λ s′. Unit {0})
+groups-back : (gs : List Group) (told : Told) (s : State) (at : ℕ) → GoodGroups (told .time) gs → Knows told s
+    → Goes (machine widest) (wordsFrom told gs) s at (rowsOfGroups gs) (λ s′. Unit {0})
 unfolding wordsFrom
 groups-back [] told s at good h = goes-none tt
 groups-back (g ∷ gs) told s at good h =
@@ -148,9 +147,7 @@ groups-back (g ∷ gs) told s at good h =
 pub read-back-from : (l : List ℕ) → GoodGroups 0 (groupsOf (rowsOf l)) → rowsOfGroups (groupsOf (rowsOf l)) ≡ rowsOf l
     → length (bytesOfAll 2 (spelled spelling l)) ≤ 1073741824 → (room : ℕ) → roomOf l ≤ room
     → Finishes (readingOf (pictureOf 2048 2048) (bytesOfAll 2 (spelled spelling l)) room) (rowsOf l)
-unfolding admissionOf
-read-back-from l good all short room fits =
-    subst (λ (r : Run (Reached State)). Finishes r (rowsOf l)) (sym same) (leads-finishes leads refl room (omega (arith, rows-of-length l)))
+read-back-from l good all short room fits = goes-finishes back (λ s e. refl) (lit< tt) widest refl short room (omega (arith, rows-of-length l))
   where
     unset : Knows nothingTold fresh
     unset =
@@ -160,14 +157,7 @@ read-back-from l good all short room fits =
           isTime = λ e. refl;
         }
 
-    back : Goes (spelled spelling l) fresh 0 (rowsOfGroups (groupsOf (rowsOf l))) (λ s. Unit {0})
-    back = groups-back (groupsOf (rowsOf l)) nothingTold fresh 0 good unset
-
-    leads : Leads (machine widest) (spelled spelling l) fresh 0 (rowsOf l) (back .state) (back .place)
-    leads = subst (λ (rs : List Row). Leads (machine widest) (spelled spelling l) fresh 0 rs (back .state) (back .place)) all (back .leads)
-
-    admitted : ltb 1073741824 (length (bytesOfAll 2 (spelled spelling l))) ≡ false
-    admitted = le-ltb _ _ short
-
-    same : readingOf widest (bytesOfAll 2 (spelled spelling l)) room ≡ reading (machine widest) (before (spelled spelling l) whole) fresh 0 room
-    same = rw admitted (ap (λ (ws : Words). reading (machine widest) ws fresh 0 room) (words-of-bytes 2 (lit< tt) (spelled spelling l) (back .small)))
+    back : Goes (machine widest) (spelled spelling l) fresh 0 (rowsOf l) (λ s. Unit {0})
+    back =
+        subst (λ (rs : List Row). Goes (machine widest) (spelled spelling l) fresh 0 rs (λ s. Unit {0})) all
+        (groups-back (groupsOf (rowsOf l)) nothingTold fresh 0 good unset)

@@ -53,6 +53,17 @@ time-short timed old time h =
     go true high e = omega arith
     go false high e = simp length-append (omega arith)
 
+-- and so many whatever the old time is
+pub time-most : (timed : Bool) (old time : ℕ) → length (timeWords timed old time) ≤ 2 + 2 * (time / 16777216)
+unfolding timeWords
+time-most timed old time =
+    let n : ℕ = wrapsOf time - wrapsOf old in
+    go (timed && eqb old time) (highWords n timed (highOf old) (highOf time)) (high-short n timed (highOf old) (highOf time))
+  where
+    go : (known : Bool) (high : List ℕ) → length high ≤ 1 + 2 * (wrapsOf time - wrapsOf old) → length (cond known [] (high ++ (lowWord (time % 4096) ∷ []))) ≤ 2 + 2 * (time / 16777216)
+    go true high e = omega arith
+    go false high e = simp length-append (omega arith)
+
 -- a group after its time: one word for y, and no more than one for each column
 columns-length : (rs : List Row) → length (columnsOf rs) ≡ length rs
 columns-length [] = refl

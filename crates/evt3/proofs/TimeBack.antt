@@ -3,45 +3,16 @@ use mathlib.Core.Path.{_≡_, refl, sym, _∙_, ap, subst}
 use Prim.Native.Nat.{ℕ, zero, suc, _+_, _-_, _%_, _≤_, _<_}
 use native.Mathlib.Omega.{arith}
 use mathlib.Core.Bool.{Bool, true, false, cond, _&&_}
-use mathlib.Core.List.{List, [], _∷_, _++_}
+use mathlib.Core.List.{[], _∷_, _++_}
 use lib.Dec.{eqb, lit<}
 use borrow.Author.Tests.{eqb-true}
-use Rattle.rows.specs.declared.row.Row.{Row}
 use Rattle.rows.proofs.GoodRows.{and-first, and-second}
-use Rattle.words.specs.Machine.{next}
-use Rattle.words.specs.Promises.{Small}
-use Rattle.words.proofs.ReadBack.{Leads, leads-none, leads-word, leads-both}
+use Rattle.words.proofs.ReadBack.{Goes, goes-none, goes-word, goes-both}
 use Rattle.evt3.specs.declared.state.State.{State}
 use Rattle.evt3.specs.declared.told.Told.{Told}
-use Rattle.evt3.specs.Words.{step}
 use Rattle.evt3.specs.Reader.{machine}
 use Rattle.evt3.specs.Spelling.{lowWord, highWord, unless, highWords, wrapsOf, highOf, timeWords}
 use Rattle.evt3.proofs.SpelledSteps.{widest, low-step, high-step, wraps-stay, wraps-more}
-
--- words of two bytes that give rows to a reader, of which P holds then
-pub record Goes (ws : List ℕ) (s : State) (at : ℕ) (rs : List Row) (P : State → Type 0) : Type 0 where
-  pub state : State
-  pub place : ℕ
-  pub leads : Leads (machine widest) ws s at rs state place
-  pub small : Small 2 ws
-  pub holds : P state
-
-small-both : (a b : List ℕ) → Small 2 a → Small 2 b → Small 2 (a ++ b)
-small-both [] b h g = g
-small-both (w ∷ a) b h g = (h .0, small-both a b (h .1) g)
-
-module _ {P : State → Type 0} where
-  pub goes-none : {s : State} {at : ℕ} → P s → Goes [] s at [] P
-  goes-none {s} {at} h = record { state = s; place = at; leads = leads-none (machine widest) s at; small = tt; holds = h }
-
-  pub goes-word : {w : ℕ} {s s′ : State} {at : ℕ} {rs : List Row} → w < 65536 → step widest s w ≡ next s′ rs → P s′ → Goes (w ∷ []) s at rs P
-  goes-word {s′ = s′} {at = at} l e h = record { state = s′; place = at + 2; leads = leads-word e; small = (l, tt); holds = h }
-
-  pub goes-both : {a b : List ℕ} {s : State} {at : ℕ} {rs rs′ : List Row} {Q : State → Type 0}
-      → Goes a s at rs P → ((s′ : State) (at′ : ℕ) → P s′ → Goes b s′ at′ rs′ Q) → Goes (a ++ b) s at (rs ++ rs′) Q
-  goes-both {a} {b} h f =
-      let g = f (h .state) (h .place) (h .holds) in
-      record { state = g .state; place = g .place; leads = leads-both (h .leads) (g .leads); small = small-both a b (h .small) (g .small); holds = g .holds }
 
 -- a reader with a high part, if one is known, a count of wraps, and a line, if one is known
 pub record Clock (known : Bool) (high wraps : ℕ) (lined : Bool) (y : ℕ) (s : State) : Type 0 where
@@ -60,7 +31,7 @@ pub record Knows (told : Told) (s : State) : Type 0 where
 -- the words of a high part
 module _ {lined : Bool} {y : ℕ} where
   high-goes : (known : Bool) (old high wraps : ℕ) (s : State) (at : ℕ) → Clock known old wraps lined y s → (known ≡ true → old ≤ high) → high < 4096 → wraps < 1024
-      → Goes (unless (known && eqb old high) (highWord high)) s at [] (Clock true high wraps lined y)
+      → Goes (machine widest) (unless (known && eqb old high) (highWord high)) s at [] (Clock true high wraps lined y)
   high-goes known old high wraps s at h up small few = go (known && eqb old high) refl
     where
       not-below : s .known .high ≡ true → s .high ≤ high
@@ -68,7 +39,7 @@ module _ {lined : Bool} {y : ℕ} where
           let is : known ≡ true = sym (h .isKnown) ∙ e in
           subst (λ (n : ℕ). n ≤ high) (sym (h .isHigh is)) (up is)
 
-      go : (t : Bool) → known && eqb old high ≡ t → Goes (unless t (highWord high)) s at [] (Clock true high wraps lined y)
+      go : (t : Bool) → known && eqb old high ≡ t → Goes (machine widest) (unless t (highWord high)) s at [] (Clock true high wraps lined y)
       go true e =
           let is : known ≡ true = and-first known (eqb old high) e in
           goes-none (record {
@@ -83,24 +54,25 @@ module _ {lined : Bool} {y : ℕ} where
           (record { isKnown = refl; isHigh = λ k. refl; isWraps = refl; isLined = h .isLined; isLine = h .isLine })
 
   wrap-goes : (old wraps : ℕ) (s : State) (at : ℕ) → Clock true old wraps lined y s → 0 < old → wraps < 1023
-      → Goes (highWord 0 ∷ []) s at [] (Clock true 0 (wraps + 1) lined y)
+      → Goes (machine widest) (highWord 0 ∷ []) s at [] (Clock true 0 (wraps + 1) lined y)
   wrap-goes old wraps s at h some few =
       let more : 0 < s .high = omega (arith, h .isHigh refl) in
       goes-word (omega arith) (high-step s 0 (wraps + 1) (lit< tt) (wraps-more s 0 (h .isKnown) more ∙ ap (λ (n : ℕ). n + 1) (h .isWraps)) (omega arith))
       (record { isKnown = refl; isHigh = λ k. refl; isWraps = refl; isLined = h .isLined; isLine = h .isLine })
 
   highs-go : (n : ℕ) (known : Bool) (old high wraps : ℕ) (s : State) (at : ℕ) → Clock known old wraps lined y s → old < 4096
-      → (n ≡ 0 → known ≡ true → old ≤ high) → high < 4096 → wraps + n < 1024 → Goes (highWords n known old high) s at [] (Clock true high (wraps + n) lined y)
+      → (n ≡ 0 → known ≡ true → old ≤ high) → high < 4096 → wraps + n < 1024
+      → Goes (machine widest) (highWords n known old high) s at [] (Clock true high (wraps + n) lined y)
   unfolding highWords
   highs-go zero known old high wraps s at h fits up small few =
       let same : wraps ≡ wraps + 0 = omega arith in
-      subst (λ (m : ℕ). Goes (unless (known && eqb old high) (highWord high)) s at [] (Clock true high m lined y)) same
+      subst (λ (m : ℕ). Goes (machine widest) (unless (known && eqb old high) (highWord high)) s at [] (Clock true high m lined y)) same
       (high-goes known old high wraps s at h (up refl) small (omega arith))
   highs-go (suc n) known old high wraps s at h fits up small few =
       let same : wraps + 1 + n ≡ wraps + suc n = omega arith in
       goes-both (high-goes known old 4095 wraps s at h (λ k. omega arith) (lit< tt) (omega arith)) (λ s₁ at₁ h₁.
       goes-both (wrap-goes 4095 wraps s₁ at₁ h₁ (lit< tt) (omega arith)) (λ s₂ at₂ h₂.
-      subst (λ (m : ℕ). Goes (highWords n true 0 high) s₂ at₂ [] (Clock true high m lined y)) same
+      subst (λ (m : ℕ). Goes (machine widest) (highWords n true 0 high) s₂ at₂ [] (Clock true high m lined y)) same
       (highs-go n true 0 high (wraps + 1) s₂ at₂ h₂ (lit< tt) (λ e k. omega arith) small (omega arith))))
 
 -- what is told after a time
@@ -108,7 +80,7 @@ abbrev pub atTime : Told → ℕ → Told
 atTime told time = record { time = time; y = told .y; timed = true; lined = told .lined }
 
 pub time-goes : (told : Told) (time : ℕ) (s : State) (at : ℕ) → told .time ≤ time → time < 17179869184 → Knows told s
-    → Goes (timeWords (told .timed) (told .time) time) s at [] (Knows (atTime told time))
+    → Goes (machine widest) (timeWords (told .timed) (told .time) time) s at [] (Knows (atTime told time))
 unfolding timeWords
 time-goes told time s at later fits h = go (told .timed && eqb (told .time) time) refl
   where
@@ -116,7 +88,7 @@ time-goes told time s at later fits h = go (told .timed && eqb (told .time) time
     n = wrapsOf time - wrapsOf (told .time)
 
     low : (s₁ : State) (at₁ : ℕ) → Clock true (highOf time) (wrapsOf (told .time) + n) (told .lined) (told .y) s₁
-        → Goes (lowWord (time % 4096) ∷ []) s₁ at₁ [] (Knows (atTime told time))
+        → Goes (machine widest) (lowWord (time % 4096) ∷ []) s₁ at₁ [] (Knows (atTime told time))
     low s₁ at₁ h₁ =
         let wraps : s₁ .wraps ≡ wrapsOf time = omega (arith, h₁ .isWraps) in
         let high : s₁ .high ≡ highOf time = h₁ .isHigh refl in
@@ -128,7 +100,8 @@ time-goes told time s at later fits h = go (told .timed && eqb (told .time) time
         })
 
     go : (t : Bool) → told .timed && eqb (told .time) time ≡ t
-        → Goes (cond t [] (highWords n (told .timed) (highOf (told .time)) (highOf time) ++ (lowWord (time % 4096) ∷ []))) s at [] (Knows (atTime told time))
+        → Goes (machine widest) (cond t [] (highWords n (told .timed) (highOf (told .time)) (highOf time) ++ (lowWord (time % 4096) ∷ []))) s at []
+        (Knows (atTime told time))
     go true e =
         let is : told .timed ≡ true = and-first (told .timed) (eqb (told .time) time) e in
         let same : told .time ≡ time = eqb-true (told .time) time (and-second (told .timed) (eqb (told .time) time) e) in

@@ -5,100 +5,68 @@ use Prim.Native.Nat.{ℕ, _+_, _-_, _*_, _^_, _%_, _≤_}
 use mathlib.Core.Bool.{Bool, true, false, cond, _&&_, not}
 use mathlib.Core.List.{List, [], _∷_, _++_}
 use lib.ListN.{length}
-use lib.Dec.{leb, ltb}
+use lib.Dec.{leb, ltb, eqb}
 use Rattle.rows.specs.declared.row.Row.{Row}
-use Rattle.rows.specs.declared.row.RowAt.{RowAt}
-use Rattle.rows.specs.declared.row.RowAt.the-variants.{Found, Nothing}
 use Rattle.rows.specs.declared.rules.Kind.{Kind}
 use Rattle.rows.specs.declared.rules.Kind.the-variants.{Pixel, Trigger, ImuCounts, ImuSingles, UsbPacket, Special, Other}
 use Rattle.rows.specs.Row.{timeOf, rowsOf}
-use Rattle.rows.specs.Rules.{kindOf, accepted, verdictFrom}
+use Rattle.rows.specs.Rules.{accepted, verdictFrom}
 use Rattle.words.specs.Writer.{spelled}
-use Rattle.evt3.specs.declared.base.Ahead.{Ahead}
-use Rattle.evt3.specs.declared.base.Base.{Base}
-use Rattle.evt3.specs.declared.base.Column.{Column}
-use Rattle.evt3.specs.declared.base.Column.the-variants.{Marked, Vector, Based, Single}
+use Rattle.evt3.specs.declared.span.Span.{Span}
 use Rattle.evt3.specs.declared.told.Told.{Told}
-use Rattle.evt3.specs.Spelling.{xWord, baseWord, vectorWord, triggerWord, timeWords, yWords, goesOn, writable, spelling}
+use Rattle.evt3.specs.Spelling.{writable, xWord, baseWord, vectorWord, triggerWord, timeWords, yWords, timeTold, lineTold, spelling}
 
--- what the row after a row tells: whether the group goes on with it, and its column
-abbrev pub aheadOf : Row → RowAt → Ahead
-aheadOf r (Found s) = record { x = s .a; on = goesOn r s }
-aheadOf r Nothing = record { x = 0; on = false }
+-- pixels of a row group that are not written yet, within twelve columns from a base on: none, or the first of them
+abbrev pub noSpan : Span
+noSpan = record { base = 0; x = 0; polarity = 0; bits = 0; known = false }
 
--- whether it lies in the twelve columns from a base on
-abbrev pub within : ℕ → Ahead → Bool
-within base a = a .on && ltb (a .x) (base + 12)
+abbrev pub firstSpan : (x polarity : ℕ) → Span
+firstSpan x polarity = record { base = x; x = x; polarity = polarity; bits = 1; known = false }
 
--- before the first column of a group no base is known
-abbrev pub noBase : Base
-noBase = record { «from» = 0; bits = 0; known = false }
+-- their words: a vector where the base is known from the one before; else ADDR_X for one pixel, BASE_X and a vector for more
+unfoldable pub spanWords : Span → List ℕ
+spanWords s =
+    cond (eqb (s .bits) 0) []
+    (cond (s .known) (vectorWord (s .bits) ∷ [])
+    (cond (eqb (s .bits) 1) (xWord (s .polarity) (s .base) ∷ [])
+    (baseWord (s .polarity) (s .base) ∷ vectorWord (s .bits) ∷ [])))
 
--- how a column is written: it is marked by the vector in hand, or by the one after that, with so many bits then; or it has a word of its own
-unfoldable pub columnAt : Base → ℕ → Ahead → Column
-columnAt b x a =
-    cond (b .known && leb (b .from) x && ltb (x - b .from) 12) (Marked ((b .bits + 2 ^ (x - b .from)) % 4096))
-    (cond (b .known && leb (b .from) x && ltb (x - b .from) 24) (Vector (b .from + 12) (2 ^ (x - b .from - 12)))
-    (cond (within x a) Based Single))
+-- whether a pixel is of their group: there are some, of its time, line and polarity, and the last of them lies before it
+unfoldable pub joins : Told → Span → Row → Bool
+joins told s r =
+    ltb 0 (s .bits) && eqb (told .time) (timeOf r) && eqb (told .y) (r .b) && eqb (s .polarity) (r .c) && ltb (s .x) (r .a)
 
--- the base then: where the vector in hand begins, and its bits so far
-unfoldable pub baseWith : Base → Column → ℕ → Base
-baseWith b (Marked bits) x = record { «from» = b .from; bits = bits; known = true }
-baseWith b (Vector from bits) x = record { «from» = from; bits = bits; known = true }
-baseWith b Based x = record { «from» = x; bits = 1; known = true }
-baseWith b Single x = record { «from» = b .from; bits = 0; known = b .known }
+-- whether a column of the group lies in those twelve; with it, and else the twelve that come next
+abbrev pub holds : Span → ℕ → Bool
+holds s x = leb (s .base) x && ltb (x - s .base) 12
 
--- the word that a column has of its own
-unfoldable pub leadWords : Column → (polarity x : ℕ) → List ℕ
-leadWords (Marked bits) polarity x = []
-leadWords (Vector from bits) polarity x = []
-leadWords Based polarity x = baseWord polarity x ∷ []
-leadWords Single polarity x = xWord polarity x ∷ []
+unfoldable pub spanWith : Span → ℕ → Span
+spanWith s x = record { base = s .base; x = x; polarity = s .polarity; bits = (s .bits + 2 ^ (x - s .base)) % 4096; known = s .known }
 
--- a vector in hand is written when the row after is not of its columns
-abbrev pub vectorEnds : Base → Ahead → Bool
-vectorEnds b a = ltb 0 (b .bits) && not (within (b .from) a)
+-- after a vector its base has moved by twelve columns
+unfoldable pub spanNext : Span → ℕ → Span
+spanNext s x =
+    cond (not (s .known) && eqb (s .bits) 1) (firstSpan x (s .polarity))
+    (cond (leb (s .base + 12) x && ltb x (s .base + 24))
+    (record { base = s .base + 12; x = x; polarity = s .polarity; bits = 2 ^ (x - (s .base + 12)); known = true })
+    (firstSpan x (s .polarity)))
 
-unfoldable pub vectorWords : Base → Ahead → List ℕ
-vectorWords b a = cond (vectorEnds b a) (vectorWord (b .bits) ∷ []) []
+-- the words before the first pixel of a group is taken: those of the group before, its time and its line, if new
+unfoldable pub startWords : Told → Span → (time y : ℕ) → List ℕ
+startWords told s time y = spanWords s ++ (timeWords (told .timed) (told .time) time ++ yWords (told .lined) (told .y) y)
 
--- with a column taken; and after its row, where a group that does not go on has no base
-abbrev pub taken : Base → ℕ → Ahead → Base
-taken b x a = baseWith b (columnAt b x a) x
+-- a row that is no pixel: the group before it, its time, and a trigger's own word
+abbrev pub ownAs : Kind → Row → List ℕ
+ownAs Trigger r = triggerWord (r .a) (r .b) ∷ []
+ownAs Pixel r = []
+ownAs ImuCounts r = []
+ownAs ImuSingles r = []
+ownAs UsbPacket r = []
+ownAs Special r = []
+ownAs Other r = []
 
-abbrev pub baseAfter : Base → Ahead → Base
-baseAfter b a = cond (a .on) b noBase
-
-abbrev pub basePast : Base → ℕ → Ahead → Base
-basePast b x a = baseAfter (taken b x a) a
-
--- the words of a pixel after its time: Y, if new, the column's own word, and the vector in hand, if it ends
-unfoldable pub pixelWords : Told → Column → Base → Row → Ahead → List ℕ
-pixelWords told column held r a =
-    yWords (told .lined) (told .y) (r .b) ++ (leadWords column (r .c) (r .a) ++ vectorWords held a)
-
--- the words of any other row
-unfoldable pub otherAs : Kind → Row → List ℕ
-otherAs Pixel r = []
-otherAs Trigger r = triggerWord (r .a) (r .b) ∷ []
-otherAs ImuCounts r = []
-otherAs ImuSingles r = []
-otherAs UsbPacket r = []
-otherAs Special r = []
-otherAs Other r = []
-
--- the words that a row adds
-abbrev pub rowAs : Kind → Told → Base → Row → Ahead → List ℕ
-rowAs Pixel told b r a = pixelWords told (columnAt b (r .a) a) (taken b (r .a) a) r a
-rowAs Trigger told b r a = otherAs Trigger r
-rowAs ImuCounts told b r a = otherAs ImuCounts r
-rowAs ImuSingles told b r a = otherAs ImuSingles r
-rowAs UsbPacket told b r a = otherAs UsbPacket r
-rowAs Special told b r a = otherAs Special r
-rowAs Other told b r a = otherAs Other r
-
-abbrev pub rowWords : Told → Base → Row → Ahead → List ℕ
-rowWords told b r a = timeWords (told .timed) (told .time) (timeOf r) ++ rowAs (kindOf (r .kind)) told b r a
+unfoldable pub otherWords : Told → Span → ℕ → Kind → Row → List ℕ
+otherWords told s time k r = spanWords s ++ (timeWords (told .timed) (told .time) time ++ ownAs k r)
 
 -- rows that were judged, and room for their words
 pub record RowsAndRoom (l out : List ℕ) : Type 0 where

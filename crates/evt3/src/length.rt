@@ -1,13 +1,11 @@
 // How many words a row takes where the writer stands.
 ghost use mathlib.Core.Path.{_≡_};
-ghost use Prim.Native.Nat.{ℕ, _≤_};
+ghost use Prim.Native.Nat.{_≤_};
 ghost use lib.ListN.{length};
 ghost use Rattle.rows.specs.Rules.{kindOf};
-ghost use Rattle.evt3.specs.Spelling.{highWords, timeWords, yWords};
-ghost use Rattle.evt3.specs.Walk.{leadWords, vectorWords, pixelWords, otherAs};
-use crate::base::Ahead;
-use crate::base::Base;
-use crate::base::Column;
+ghost use Rattle.evt3.specs.Spelling.{highWords, timeWords};
+ghost use Rattle.evt3.specs.Walk.{spanWords, startWords, otherWords};
+use crate::span::Span;
 use crate::told::Told;
 use crate::told::is_known;
 use crate::told::wraps_between;
@@ -28,7 +26,7 @@ fn high_length(wraps: u64, known: bool, old: u64, high: u64) -> usize
 }
 
 // A time.
-pub(crate) fn time_length(told: Told, time: u64) -> usize
+fn time_length(told: Told, time: u64) -> usize
     ensures { λ r. ⌜ r ≡ length (timeWords (told .timed) (told .time) time) ⌝ }
 {
     if is_known(told.timed, told.time, time) {
@@ -44,47 +42,38 @@ pub(crate) fn time_length(told: Told, time: u64) -> usize
         + 1
 }
 
-// A Y.
-fn line_length(told: Told, y: u32) -> usize
-    ensures { λ r. ⌜ r ≡ length (yWords (told .lined) (told .y) y) ⌝ }
+// The pixels in hand.
+pub(crate) fn span_length(span: Span) -> usize
+    ensures { λ r. ⌜ r ≡ length (spanWords span) ⌝ }
 {
-    !is_known(told.lined, told.y as u64, y as u64) as usize
-}
-
-// The word that a column has of its own.
-fn lead_length(column: Column) -> usize
-    ensures { λ r. ⌜ ((p x : ℕ) → r ≡ length (leadWords column p x)) ⌝ }
-{
-    match column {
-        Column::Marked(_) => 0,
-        Column::Vector(_, _) => 0,
-        Column::Based => 1,
-        Column::Single => 1,
+    if span.bits == 0 {
+        return 0;
     }
+    if span.known {
+        return 1;
+    }
+    if span.bits == 1 {
+        return 1;
+    }
+    2
 }
 
-// A vector in hand, if it ends here.
-fn vector_length(held: Base, ahead: Ahead) -> usize
-    ensures { λ r. ⌜ r ≡ length (vectorWords held ahead) ⌝ }
+// The pixels in hand, and the time and line of a new group.
+pub(crate) fn start_length(told: Told, span: Span, time: u64, y: u32) -> usize
+    ensures { λ r. ⌜ r ≡ length (startWords told span time y) ⌝ }
 {
-    held.ends(ahead) as usize
+    let line = !is_known(told.lined, told.y as u64, y as u64) as usize;
+    span_length(span) + (time_length(told, time) + line)
 }
 
-// A pixel after its time.
-pub(crate) fn pixel_length(told: Told, column: Column, held: Base, row: Row, ahead: Ahead) -> usize
-    ensures { λ r. ⌜ r ≡ length (pixelWords told column held row ahead) ⌝ }
-{
-    let lead = lead_length(column);
-    line_length(told, row.b) + (lead + vector_length(held, ahead))
-}
-
-// Any other row after its time.
-pub(crate) fn other_length(row: Row) -> usize
-    ensures { λ r. ⌜ r ≡ length (otherAs (kindOf (row .kind)) row) ⌝ }
+// The pixels in hand, and a row that is no pixel.
+pub(crate) fn other_length(told: Told, span: Span, time: u64, row: Row) -> usize
+    ensures { λ r. ⌜ r ≡ length (otherWords told span time (kindOf (row .kind)) row) ⌝ }
 {
     let kind = Kind::of(row.kind);
+    let before = span_length(span) + time_length(told, time);
     match kind {
-        Kind::Trigger => 1,
-        _ => 0,
+        Kind::Trigger => before + 1,
+        _ => before,
     }
 }

@@ -8,12 +8,13 @@
 //
 // The reader's state is a struct by value: for each kind of word that changes it, a method takes the word and hands back the
 // next state. specs/Words.antt says what each word does, specs/Reader.antt what any bytes give.
-mod base;
 mod given;
 mod kind;
 mod length;
 mod put;
 mod reader;
+mod round_trip;
+mod span;
 mod state;
 mod told;
 mod writer;

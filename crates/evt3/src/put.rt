@@ -5,10 +5,8 @@ ghost use lib.ListN.{length};
 ghost use Rattle.rows.specs.Rules.{kindOf};
 ghost use Rattle.words.specs.Writer.{PutWords};
 ghost use Rattle.evt3.specs.Spelling.{unless, highWords, timeWords};
-ghost use Rattle.evt3.specs.Walk.{leadWords, vectorWords, pixelWords, otherAs};
-use crate::base::Ahead;
-use crate::base::Base;
-use crate::base::Column;
+ghost use Rattle.evt3.specs.Walk.{spanWords, startWords, otherWords};
+use crate::span::Span;
 use crate::told::Told;
 use crate::told::is_known;
 use crate::told::wraps_between;
@@ -60,7 +58,7 @@ fn put_high(out: &mut [u8], at: usize, wraps: u64, known: bool, old: u64, high: 
 }
 
 // Writes a time, if it is new.
-pub(crate) fn put_time(out: &mut [u8], at: usize, told: Told, time: u64) -> usize
+fn put_time(out: &mut [u8], at: usize, told: Told, time: u64) -> usize
     requires { ⌜ at + length (timeWords (told .timed) (told .time) time) * 2 ≤ length (now out) ⌝ }
     ensures { λ r. ⌜ PutWords 2 (timeWords (told .timed) (told .time) time) (now (out .entry)) at (now (out .exit)) r ⌝ }
 {
@@ -79,58 +77,60 @@ pub(crate) fn put_time(out: &mut [u8], at: usize, told: Told, time: u64) -> usiz
     put_word(out, to, 24576 + time % 4096)
 }
 
-// Writes the word that a column has of its own.
-fn put_lead(out: &mut [u8], at: usize, column: Column, polarity: u32, x: u32) -> usize
-    requires { ⌜ at + length (leadWords column polarity x) * 2 ≤ length (now out) ⌝ }
-    ensures { λ r. ⌜ PutWords 2 (leadWords column polarity x) (now (out .entry)) at (now (out .exit)) r ⌝ }
+// Writes the pixels in hand.
+pub(crate) fn put_span(out: &mut [u8], at: usize, span: Span) -> usize
+    requires { ⌜ at + length (spanWords span) * 2 ≤ length (now out) ⌝ }
+    ensures { λ r. ⌜ PutWords 2 (spanWords span) (now (out .entry)) at (now (out .exit)) r ⌝ }
 {
-    let below = polarity as u64 * 2048 + x as u64;
-    match column {
-        Column::Marked(_) => at,
-        Column::Vector(_, _) => at,
-        Column::Based => put_word(out, at, 12288 + below),
-        Column::Single => put_word(out, at, 8192 + below),
+    if span.bits == 0 {
+        return at;
     }
+    if span.known {
+        return put_word(out, at, 16384 + span.bits as u64);
+    }
+    let below = span.polarity as u64 * 2048 + span.base as u64;
+    if span.bits == 1 {
+        return put_word(out, at, 8192 + below);
+    }
+    let to = put_word(out, at, 12288 + below);
+    put_word(out, to, 16384 + span.bits as u64)
 }
 
-// Writes a vector in hand, if it ends here.
-fn put_vector(out: &mut [u8], at: usize, held: Base, ahead: Ahead) -> usize
-    requires { ⌜ at + length (vectorWords held ahead) * 2 ≤ length (now out) ⌝ }
-    ensures { λ r. ⌜ PutWords 2 (vectorWords held ahead) (now (out .entry)) at (now (out .exit)) r ⌝ }
-{
-    if held.ends(ahead) {
-        return put_word(out, at, 16384 + held.bits as u64);
-    }
-    at
-}
-
-// Writes a pixel after its time.
-pub(crate) fn put_pixel(
+// Writes the pixels in hand, and the time and line of a new group.
+pub(crate) fn put_start(
     out: &mut [u8],
     at: usize,
     told: Told,
-    column: Column,
-    held: Base,
-    row: Row,
-    ahead: Ahead,
+    span: Span,
+    time: u64,
+    y: u32,
 ) -> usize
-    requires { ⌜ at + length (pixelWords told column held row ahead) * 2 ≤ length (now out) ⌝ }
-    ensures { λ r. ⌜ PutWords 2 (pixelWords told column held row ahead) (now (out .entry)) at (now (out .exit)) r ⌝ }
+    requires { ⌜ at + length (startWords told span time y) * 2 ≤ length (now out) ⌝ }
+    ensures { λ r. ⌜ PutWords 2 (startWords told span time y) (now (out .entry)) at (now (out .exit)) r ⌝ }
 {
-    let known = is_known(told.lined, told.y as u64, row.b as u64);
-    let lined = put_unless(out, at, known, row.b as u64);
-    let led = put_lead(out, lined, column, row.c, row.a);
-    put_vector(out, led, held, ahead)
+    let spanned = put_span(out, at, span);
+    let timed = put_time(out, spanned, told, time);
+    let known = is_known(told.lined, told.y as u64, y as u64);
+    put_unless(out, timed, known, y as u64)
 }
 
-// Writes any other row after its time.
-pub(crate) fn put_other(out: &mut [u8], at: usize, row: Row) -> usize
-    requires { ⌜ at + length (otherAs (kindOf (row .kind)) row) * 2 ≤ length (now out) ⌝ }
-    ensures { λ r. ⌜ PutWords 2 (otherAs (kindOf (row .kind)) row) (now (out .entry)) at (now (out .exit)) r ⌝ }
+// Writes the pixels in hand, and a row that is no pixel.
+pub(crate) fn put_other(
+    out: &mut [u8],
+    at: usize,
+    told: Told,
+    span: Span,
+    time: u64,
+    row: Row,
+) -> usize
+    requires { ⌜ at + length (otherWords told span time (kindOf (row .kind)) row) * 2 ≤ length (now out) ⌝ }
+    ensures { λ r. ⌜ PutWords 2 (otherWords told span time (kindOf (row .kind)) row) (now (out .entry)) at (now (out .exit)) r ⌝ }
 {
+    let spanned = put_span(out, at, span);
+    let timed = put_time(out, spanned, told, time);
     let kind = Kind::of(row.kind);
     match kind {
-        Kind::Trigger => put_word(out, at, 40960 + (row.a as u64 * 256 + row.b as u64)),
-        _ => at,
+        Kind::Trigger => put_word(out, timed, 40960 + (row.a as u64 * 256 + row.b as u64)),
+        _ => timed,
     }
 }

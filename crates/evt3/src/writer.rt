@@ -8,14 +8,13 @@ ghost use Rattle.words.specs.Words.{bytesOfAll};
 ghost use Rattle.words.specs.Writer.{spelled, writingOf, WroteAs};
 ghost use Rattle.evt3.specs.Spelling.{writable, spelling};
 ghost use Rattle.evt3.specs.Walk.{RowsAndRoom};
-use crate::base::Ahead;
-use crate::base::Base;
 use crate::length::other_length;
-use crate::length::pixel_length;
-use crate::length::time_length;
+use crate::length::span_length;
+use crate::length::start_length;
 use crate::put::put_other;
-use crate::put::put_pixel;
-use crate::put::put_time;
+use crate::put::put_span;
+use crate::put::put_start;
+use crate::span::Span;
 use crate::told::Told;
 use rows::Fault;
 use rows::Judged;
@@ -47,13 +46,15 @@ fn count(rows: &[u32]) -> Writing
 {
     let mut words: usize = 0;
     let mut told = Told::nothing();
-    let mut base = Base::none();
+    let mut span = Span::none();
     let mut i: usize = 0;
     loop {
         let found = rows::get(rows, i);
         match found {
             RowAt::Nothing => {
-                return Writing::Written { count: words };
+                return Writing::Written {
+                    count: words + span_length(span),
+                };
             }
             RowAt::Found(row) => {
                 let judged = judge(row, told.time);
@@ -62,19 +63,26 @@ fn count(rows: &[u32]) -> Writing
                         return Writing::Refused { fault, row: i };
                     }
                     Judged::Time(time) => {
-                        words += time_length(told, time);
                         if row.kind == 1 {
-                            let ahead = Ahead::of(row, rows::get(rows, i + 1));
-                            let column = base.column(row.a, ahead);
-                            let held = base.with(column, row.a);
-                            words += pixel_length(told, column, held, row, ahead);
-                            base = held.after(ahead);
+                            if span.joins(told, time, row) {
+                                if span.holds(row.a) {
+                                    span = span.with(row.a);
+                                    i += 1;
+                                    continue;
+                                }
+                                words += span_length(span);
+                                span = span.next(row.a);
+                                i += 1;
+                                continue;
+                            }
+                            words += start_length(told, span, time, row.b);
+                            span = Span::first(row.a, row.c);
                             told = told.with_line(time, row.b);
                             i += 1;
                             continue;
                         }
-                        words += other_length(row);
-                        base = Base::none();
+                        words += other_length(told, span, time, row);
+                        span = Span::none();
                         told = told.with_time(time);
                         i += 1;
                     }
@@ -91,29 +99,37 @@ fn put_rows(rows: &[u32], out: &mut [u8])
 {
     let mut at: usize = 0;
     let mut told = Told::nothing();
-    let mut base = Base::none();
+    let mut span = Span::none();
     let mut done: usize = 0;
     loop {
         let found = rows::get(rows, done);
         match found {
             RowAt::Nothing => {
+                put_span(out, at, span);
                 return;
             }
             RowAt::Found(row) => {
                 let time = row.time();
-                at = put_time(out, at, told, time);
                 if row.kind == 1 {
-                    let ahead = Ahead::of(row, rows::get(rows, done + 1));
-                    let column = base.column(row.a, ahead);
-                    let held = base.with(column, row.a);
-                    at = put_pixel(out, at, told, column, held, row, ahead);
-                    base = held.after(ahead);
+                    if span.joins(told, time, row) {
+                        if span.holds(row.a) {
+                            span = span.with(row.a);
+                            done += 1;
+                            continue;
+                        }
+                        at = put_span(out, at, span);
+                        span = span.next(row.a);
+                        done += 1;
+                        continue;
+                    }
+                    at = put_start(out, at, told, span, time, row.b);
+                    span = Span::first(row.a, row.c);
                     told = told.with_line(time, row.b);
                     done += 1;
                     continue;
                 }
-                at = put_other(out, at, row);
-                base = Base::none();
+                at = put_other(out, at, told, span, time, row);
+                span = Span::none();
                 told = told.with_time(time);
                 done += 1;
             }

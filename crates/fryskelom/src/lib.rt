@@ -9,8 +9,9 @@ ghost use Rattle.rows.specs.Runs.{ReadNumbers};
 ghost use Rattle.words.specs.Picture.{pictureOf};
 ghost use Rattle.words.specs.Writer.{WroteNumbers};
 ghost use Rattle.evt2.specs.Reader as evt2;
-ghost use Rattle.evt2.specs.Spelling.{spelling};
+ghost use Rattle.evt2.specs.Spelling as evt2Words;
 ghost use Rattle.evt3.specs.Reader as evt3;
+ghost use Rattle.evt3.specs.Spelling as evt3Words;
 use rows::EventNumbers;
 use rows::ReadingNumbers;
 use rows::WritingNumbers;
@@ -39,7 +40,7 @@ pub extern "C" fn fry_read_evt2(
 // The EVT2 words of rows.
 #[no_mangle]
 pub extern "C" fn fry_write_evt2(rows: &[u32], out: &mut [u8]) -> WritingNumbers
-    ensures { λ r. ⌜ WroteNumbers spelling (now (rows .entry)) (now (out .entry)) (now (out .exit)) r ⌝ }
+    ensures { λ r. ⌜ WroteNumbers evt2Words.spelling (now (rows .entry)) (now (out .entry)) (now (out .exit)) r ⌝ }
 {
     evt2::write(rows, out).numbers()
 }
@@ -55,4 +56,12 @@ pub extern "C" fn fry_read_evt3(
     ensures { λ r. ⌜ ReadNumbers (evt3.readingOf (pictureOf width height) (now (bytes .entry)) (roomOf (now (rows .entry)))) (now (rows .entry)) (now (rows .exit)) r ⌝ }
 {
     evt3::read(bytes, width, height, rows).numbers()
+}
+
+// The EVT3 words of rows.
+#[no_mangle]
+pub extern "C" fn fry_write_evt3(rows: &[u32], out: &mut [u8]) -> WritingNumbers
+    ensures { λ r. ⌜ WroteNumbers evt3Words.spelling (now (rows .entry)) (now (out .entry)) (now (out .exit)) r ⌝ }
+{
+    evt3::write(rows, out).numbers()
 }

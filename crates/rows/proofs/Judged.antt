@@ -69,6 +69,16 @@ judged-later writable r last {t} e = go (goodRow r && writable) (ltb (timeOf r) 
     go true false h f = let same : t ≡ timeOf r = cc in omega (arith, ltb-false (timeOf r) last h)
     go false b h f = let z : _≡_ {A = ℕ} 0 1 = cc in absurd (omega arith)
 
+-- and it is good, and the format can write it
+pub judged-good : (writable : Bool) (r : Row) (last : ℕ) {t : ℕ} → Time t ≡ judgedOf writable r last → (goodRow r ≡ true) × (writable ≡ true)
+unfolding judgedOf
+judged-good writable r last {t} e = go (goodRow r) refl writable refl e
+  where
+    go : (g : Bool) → goodRow r ≡ g → (w : Bool) → writable ≡ w → Time t ≡ judgedBy g w r last → (goodRow r ≡ true) × (writable ≡ true)
+    go true p true q f = (p, q)
+    go true p false q f = let z : _≡_ {A = ℕ} 0 1 = cc in absurd (omega arith)
+    go false p w q f = let z : _≡_ {A = ℕ} 0 1 = cc in absurd (omega arith)
+
 no-refusal : {E : Type 0} {f : Fault} {i : ℕ} → refused f i ≡ accepted → E
 no-refusal e = let z : _≡_ {A = ℕ} 0 1 = cc in absurd (omega arith)
 

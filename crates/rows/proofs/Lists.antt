@@ -11,7 +11,6 @@ use lib.Dec.{ltb}
 use lib.Seq.{drop-cons, drop-drop, take-add, take-all, getD-append-add}
 use borrow.Author.Tests.{ltb-true, ltb-false}
 use Rattle.rows.specs.declared.row.Row.{Row}
-use Rattle.rows.specs.declared.row.RowAt.{RowAt}
 use Rattle.rows.specs.declared.row.RowAt.the-variants.{Found, Nothing}
 use Rattle.rows.specs.Row.{numbers, flat, Narrow, roomOf, rowFrom, rowAt, rowsFrom, rowsOf}
 use Rattle.rows.proofs.Stored.{flat-length}
@@ -140,15 +139,3 @@ module _ (l : List ℕ) (i : ℕ) where
       go : (t : Bool) → ltb i (roomOf l) ≡ t → Nothing ≡ cond t (Found (rowFrom l (i * 10))) Nothing → roomOf l ≤ i
       go true f g = let z : _≡_ {A = ℕ} 0 1 = cc in absurd (omega arith)
       go false f g = ltb-false _ _ f
-
--- the first of some rows, and of those from row i on
-abbrev pub firstRow : List Row → RowAt
-firstRow [] = Nothing
-firstRow (r ∷ rs) = Found r
-
-pub rest-first : (l : List ℕ) (i : ℕ) → firstRow (rest l i) ≡ rowAt l i
-rest-first l i = go (ltb i (roomOf l)) refl
-  where
-    go : (t : Bool) → ltb i (roomOf l) ≡ t → firstRow (rest l i) ≡ cond t (Found (rowFrom l (i * 10))) Nothing
-    go true e = ap firstRow (rest-more l i (ltb-true _ _ e))
-    go false e = ap firstRow (rest-none l i (ltb-false _ _ e))

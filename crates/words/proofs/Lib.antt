@@ -6,6 +6,7 @@ pub mod Bytes
 pub mod Cut
 pub mod Kept
 pub mod ReadBack
+pub mod Returned
 pub mod RowsGiven
 pub mod TwoParts
 pub mod Walks

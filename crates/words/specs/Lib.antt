@@ -3,6 +3,7 @@ pub mod Fields
 pub mod Machine
 pub mod Picture
 pub mod Promises
+pub mod RoundTrip
 pub mod Words
 pub mod Writer
 pub mod Written

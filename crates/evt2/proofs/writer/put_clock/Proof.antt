@@ -1,5 +1,4 @@
 -- `evt2::writer::put_clock` meets its contract.
--- `evt2::writer::put_clock` meets its contract.
 use Prim.Native.Nat.{_/_}
 use Rattle.evt2.proofs.Spelled.{clock-new, clock-same}
 use Rattle.words.proofs.Writes.{put-none}

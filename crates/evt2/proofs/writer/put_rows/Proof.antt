@@ -1,18 +1,18 @@
 -- `evt2::writer::put_rows` meets its contract.
--- `evt2::writer::put_rows` meets its contract.
+use Rattle.evt2.proofs.RowSteps.{Puts, puts-start, puts-length, puts-done, puts-next, clock-fits, event-fits}
+use Rattle.rows.proofs.Lists.{row-found, row-past}
 use Rattle.rows.specs.Row.{roomOf, rowFrom}
 use Rattle.rows.specs.declared.row.Row.{Row}
-use Prim.Native.Nat.{_*_, _<_, _/_, _-_}
-use mathlib.Core.Path.{_≡_, sym, _∙_}
-use Rattle.evt2.proofs.Spelled.{Putting, putting-start, putting-length, putting-done, putting-next, clock-fits, event-fits}
-use Rattle.rows.proofs.Lists.{row-found, row-past}
-use borrow.Author.Needs.{needs}
+use mathlib.Core.List.{List}
+use Prim.Native.Nat.{ℕ, _*_, _<_, _/_, _-_}
 use native.Mathlib.Omega.{arith}
+use mathlib.Core.Path.{_≡_, sym, _∙_}
+use borrow.Author.Needs.{needs}
 use Rattle.evt2.proofs.writer.put_rows.Statement.{statement}
 use Rattle.evt2.proofs.writer.put_rows.Tie as tie
 
 abbrev Inv-loop : tie.InvT-loop
-Inv-loop rows out₀ at₀ told₀ last₀ done₀ out at told last done = Putting rows out₀ at told (last / 64) done out
+Inv-loop rows out₀ at₀ told₀ last₀ done₀ out at told last done = Puts rows out₀ at told (last / 64) done out
 
 abbrev μ-loop : tie.MeasureT-loop
 μ-loop rows out₀ at₀ told₀ last₀ done₀ out at told last done = roomOf rows - done
@@ -24,11 +24,17 @@ Found-place = tie.After-known-told Inv-loop μ-loop
 abbrev row : Found-place → Row
 row d = d .before .found .given .0 .0
 
-here : (d : Found-place) → (d .before .before .before .before .loop .done < roomOf (d .before .before .before .before .before .before .before .args .rows .now)) × (row d ≡ rowFrom (d .before .before .before .before .before .before .before .args .rows .now) (d .before .before .before .before .loop .done * 10))
-here d = row-found (d .before .before .before .before .before .before .before .args .rows .now) (d .before .before .before .before .loop .done) (sym (d .before .found .given .1) ∙ d .before .before .before .get .ensures)
+abbrev list : Found-place → List ℕ
+list d = d .before .before .before .before .before .before .before .args .rows .now
+
+abbrev index : Found-place → ℕ
+index d = d .before .before .before .before .loop .done
+
+here : (d : Found-place) → (index d < roomOf (list d)) × (row d ≡ rowFrom (list d) (index d * 10))
+here d = row-found (list d) (index d) (sym (d .before .found .given .1) ∙ d .before .before .before .get .ensures)
 
 loop-holds : tie.Need-loop-holds Inv-loop μ-loop
-loop-holds c = putting-start _ _
+loop-holds c = puts-start _ _
 
 get-requires : tie.Need-get-requires Inv-loop μ-loop
 get-requires c κs = search needs
@@ -37,10 +43,12 @@ enum-told : tie.Need-enum-told Inv-loop μ-loop
 enum-told c = search needs
 
 same-length : tie.Need-same-length Inv-loop μ-loop
-same-length c = putting-length (c .before .before .before .loop .inv)
+same-length c = puts-length (c .before .before .before .loop .inv)
 
 returns : tie.Need-returns Inv-loop μ-loop
-returns c = putting-done (c .before .before .before .loop .inv) (row-past (c .before .before .before .before .before .before .args .rows .now) (c .before .before .before .loop .done) (sym (c .enum-told .given .1) ∙ c .before .before .get .ensures))
+returns c =
+    let found = sym (c .enum-told .given .1) ∙ c .before .before .get .ensures in
+    puts-done (c .before .before .before .loop .inv) (row-past (c .before .before .before .before .before .before .args .rows .now) (c .before .before .before .loop .done) found)
 
 enum-known-found : tie.Need-enum-known-found Inv-loop μ-loop
 enum-known-found c = search needs
@@ -50,24 +58,29 @@ time-requires c κs = search needs
 
 put-clock-requires : tie.Need-put-clock-requires Inv-loop μ-loop
 put-clock-requires c κs =
-    let at = here (c .before .before) in
-    rw (c .before .time .ensures) (clock-fits (c .before .before .before .before .before .before .loop .inv) (at .0) (at .1) (c .before .before .before .before .before .before .before .before .before .pre))
+    let d : Found-place = c .before .before in
+    rw (c .before .time .ensures) (clock-fits (d .before .before .before .before .loop .inv) (here d .0) (here d .1) (d .before .before .before .before .before .before .before .pre))
 
 put-event-requires : tie.Need-put-event-requires Inv-loop μ-loop
 put-event-requires c κs =
-    let at = here (c .before .before .before .before .before .before) in
-    event-fits (c .before .before .before .before .before .before .before .before .before .before .loop .inv) (at .0) (at .1) (rw (c .before .before .before .before .before .time .ensures) at (c .before .before .before .put-clock .ensures)) (c .before .before .before .before .before .before .before .before .before .before .before .before .before .pre)
+    let d : Found-place = c .before .before .before .before .before .before in
+    let clock = rw (c .before .before .before .before .before .time .ensures) at (c .before .before .before .put-clock .ensures) in
+    event-fits (d .before .before .before .before .loop .inv) (here d .0) (here d .1) clock (d .before .before .before .before .before .before .before .pre)
 
 add-done : tie.Need-add-done Inv-loop μ-loop
-add-done c = omega (arith, here (c .before .before .before .before .before .before .before .before .before) .0, c .before .before .before .before .before .before .before .before .before .before .before .before .before .before .before .before .good)
+add-done c =
+    let d : Found-place = c .before .before .before .before .before .before .before .before .before in
+    omega (arith, here d .0, d .before .before .before .before .before .before .before .good)
 
 loop-less : tie.Need-loop-less Inv-loop μ-loop
 loop-less c = omega (arith, here (c .before .before .before .before .before .before .before .before .before) .0)
 
 loop-again : tie.Need-loop-again Inv-loop μ-loop
 loop-again c =
-    let at = here (c .before .before .before .before .before .before .before .before .before) in
-    rw (c .before .before .before .before .before .before .before .before .time .ensures) (putting-next (c .before .before .before .before .before .before .before .before .before .before .before .before .before .loop .inv) (at .0) (at .1) (rw (c .before .before .before .before .before .before .before .before .time .ensures) at (c .before .before .before .before .before .before .put-clock .ensures)) (c .before .before .put-event .ensures))
+    let d : Found-place = c .before .before .before .before .before .before .before .before .before in
+    let time = c .before .before .before .before .before .before .before .before .time .ensures in
+    let clock = rw time at (c .before .before .before .before .before .before .put-clock .ensures) in
+    rw time (puts-next (d .before .before .before .before .loop .inv) (here d .0) (here d .1) clock (c .before .before .put-event .ensures))
 
 pub put-rows-spec : {M : Type 1} → statement M
 put-rows-spec =

@@ -1,4 +1,4 @@
--- The cases that 01 marks with a star, as one list: an input, and what is seen of it. So far those of the EVT2 and EVT3 readers.
+-- The cases that 01 marks with a star, as one list: an input, and what is seen of it. So far those of EVT2 and EVT3.
 use mathlib.Core.Path.{_≡_}
 use Prim.Native.Nat.{ℕ}
 use mathlib.Core.Bool.{Bool, true, cond}
@@ -11,28 +11,33 @@ use Rattle.rows.specs.declared.event.Conversion.the-variants.{Turned, Refused}
 use Rattle.rows.specs.declared.fault.Fault.{Fault}
 use Rattle.rows.specs.declared.row.Row.{Row}
 use Rattle.rows.specs.Event.{eventOf, plusZero, readingsOf}
-use Rattle.rows.specs.Row.{pixelRow, triggerRow, countsRow}
+use Rattle.rows.specs.Row.{flat, pixelRow, triggerRow, countsRow}
+use Rattle.rows.specs.Rules.{Verdict, accepted}
 use Rattle.rows.specs.Runs.{Ending, finished, refused, Run}
 use Rattle.words.specs.Machine.{Reached}
 use Rattle.words.specs.Words.{bytesOfAll}
 use Rattle.words.specs.Picture.{pictureOf}
+use Rattle.words.specs.Writer.{spelled, writingVerdict}
 use Rattle.evt2.specs.declared.state.State as evt2State
 use Rattle.evt2.specs.Reader as evt2Reader
 use Rattle.evt3.specs.declared.state.State.{State}
 use Rattle.evt3.specs.Reader.{readingOf}
+use Rattle.evt3.specs.Spelling.{spelling}
 use Rattle.evt3.specs.State.{fresh, withHigh, withTime, withY, withBase}
 
--- what is read: EVT2 or EVT3 words, for a picture of 2,048 by 2,048
+-- what is read, EVT2 or EVT3 words, for a picture of 2,048 by 2,048; or what is written as EVT3 words, rows
 pub data Input : Type 0 where
   evt2 : List ℕ → Input
   evt3 : List ℕ → Input
+  toEvt3 : List Row → Input
 
 -- how the reading ends: in a state (of EVT2, whether a high part is known, which, and how many words of a group are to come), or by
--- a refusal at a place
+-- a refusal at a place; of a writing the verdict and the words
 pub data Final : Type 0 where
   evt2Ends : Bool → ℕ → ℕ → Final
   evt3Ends : State → Final
   refusedAt : Fault → ℕ → Final
+  writes : Verdict → List ℕ → Final
 
 -- what is seen of an input: its rows, how the reading ends, and the readings of the rows that have any
 pub record Seen : Type 0 where
@@ -66,10 +71,15 @@ evt3Final (refused f place) = refusedAt f place
 abbrev pub evt3Seen : Run (Reached State) → Seen
 evt3Seen run = record { rows = run .rows; final = evt3Final (run .ending); readings = allReadings (run .rows) }
 
--- with room for 100 rows, which no case fills
+abbrev pub evt3Written : List Row → Seen
+evt3Written rs =
+    record { rows = rs; final = writes (writingVerdict spelling (flat rs) 100) (spelled spelling (flat rs)); readings = allReadings rs }
+
+-- with room for 100 rows, or 100 bytes, which no case fills
 abbrev pub seenOf : Input → Seen
 seenOf (evt2 ws) = evt2Seen (evt2Reader.readingOf (pictureOf 2048 2048) (bytesOfAll 4 ws) 100)
 seenOf (evt3 ws) = evt3Seen (readingOf (pictureOf 2048 2048) (bytesOfAll 2 ws) 100)
+seenOf (toEvt3 rs) = evt3Written rs
 
 -- a case, and that it holds
 pub record Case : Type 0 where
@@ -142,6 +152,26 @@ starCases =
     ∷ record {
       input = evt2 (0x80000001 ∷ 0xD0010000 ∷ still);
       seen = record { rows = countsRow 64 32768 0 0 0 0 0 ∷ []; final = evt2Ends true 1 0; readings = ofInt binary32 (negsuc 1) ∷ zeros };
+    }
+    -- x 5, 6 and 40 written
+    ∷ record {
+      input = toEvt3 (pixelRow 4098 5 3 1 ∷ pixelRow 4098 6 3 1 ∷ pixelRow 4098 40 3 1 ∷ []);
+      seen =
+          record {
+            rows = pixelRow 4098 5 3 1 ∷ pixelRow 4098 6 3 1 ∷ pixelRow 4098 40 3 1 ∷ [];
+            final = writes accepted (0x8001 ∷ 0x6002 ∷ 0x0003 ∷ 0x3805 ∷ 0x4003 ∷ 0x2828 ∷ []);
+            readings = [];
+          };
+    }
+    -- one pixel, first at 33,554,432
+    ∷ record {
+      input = toEvt3 (pixelRow 33554432 5 3 1 ∷ []);
+      seen =
+          record {
+            rows = pixelRow 33554432 5 3 1 ∷ [];
+            final = writes accepted (0x8FFF ∷ 0x8000 ∷ 0x8FFF ∷ 0x8000 ∷ 0x6000 ∷ 0x0003 ∷ 0x2805 ∷ []);
+            readings = [];
+          };
     }
     ∷ []
 

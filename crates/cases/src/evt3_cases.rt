@@ -1,5 +1,7 @@
-// EVT3 words read: the cases of the requirement, and cases on both sides of a limit.
+// EVT3 words read and written: the cases of the requirement, and cases on both sides of a limit.
 use crate::answers::reading;
+use crate::answers::writing;
+use rows::Row;
 
 // Room for six rows.
 fn read(name: &[u8], bytes: &[u8], width: u32) {
@@ -64,4 +66,92 @@ pub(crate) fn reads() {
     read(b"reserved:", &[1, 128, 2, 96, 0, 16], 2048);
     read(b"slave:", &[1, 128, 2, 96, 0, 8], 2048);
     read(b"no picture:", &[0, 16], 2049);
+}
+
+// A buffer of 16 bytes.
+fn write(name: &[u8], list: &[u32]) {
+    let mut out = [9u8; 16];
+    let answer = evt3::write(list, &mut out).numbers();
+    writing(name, answer, &out);
+}
+
+fn write_one(name: &[u8], row: Row) {
+    let mut list = [0u32; 10];
+    rows::put(&mut list, 0, row);
+    write(name, &list);
+}
+
+fn write_two(name: &[u8], first: Row, second: Row) {
+    let mut list = [0u32; 20];
+    rows::put(&mut list, 0, first);
+    rows::put(&mut list, 1, second);
+    write(name, &list);
+}
+
+// A brighter pixel of line 3 at 4,098 microseconds.
+fn pixel(x: u32) -> Row {
+    Row::pixel(4098, x, 3, 1)
+}
+
+// Three of them, and a buffer of 11 bytes besides.
+fn write_three(first: u32, second: u32, third: u32) {
+    let mut list = [0u32; 30];
+    rows::put(&mut list, 0, pixel(first));
+    rows::put(&mut list, 1, pixel(second));
+    rows::put(&mut list, 2, pixel(third));
+    write(b"write x 5, 6, 40:", &list);
+    let mut out = [9u8; 11];
+    let answer = evt3::write(&list, &mut out).numbers();
+    writing(b"in a byte less:", answer, &out);
+}
+
+// Twenty-four of them, from x 0 on.
+fn write_line() {
+    let mut list = [0u32; 240];
+    let mut x: u32 = 0;
+    while x < 24 {
+        rows::put(&mut list, x as usize, pixel(x));
+        x += 1;
+    }
+    write(b"x 0 to 23:", &list);
+}
+
+pub(crate) fn writes() {
+    write(b"write no EVT3:", &[]);
+    // 8001 6002 0003 3805 4003 2828
+    write_three(5, 6, 40);
+    // 8FFF 8000 8FFF 8000 6000 0003 2805
+    write_one(b"first at 33,554,432:", Row::pixel(33554432, 5, 3, 1));
+    // 8001 6002 0003 2800 280C
+    write_two(b"x 0 and 12:", pixel(0), pixel(12));
+    // 8001 6002 0003 3800 4801
+    write_two(b"x 0 and 11:", pixel(0), pixel(11));
+    // 8001 6002 0003 3800 4FFF 4FFF
+    write_line();
+    // 8001 6002 A601 8002 6002 A601
+    write_two(
+        b"the same low part:",
+        Row::trigger(4098, 6, 1),
+        Row::trigger(8194, 6, 1),
+    );
+    // 8FFF 6000 A601 8000 6000 A601
+    write_two(
+        b"a wrap from the last high part:",
+        Row::trigger(16773120, 6, 1),
+        Row::trigger(16777216, 6, 1),
+    );
+    // 8001 6002 0003 2805 2805
+    write_two(b"x 5 twice:", pixel(5), pixel(5));
+    write_two(
+        b"channel 16, then back in time:",
+        Row::trigger(4098, 16, 1),
+        Row::trigger(4097, 6, 1),
+    );
+    write_two(
+        b"channel 15, then back in time:",
+        Row::trigger(4098, 15, 1),
+        Row::trigger(4097, 6, 1),
+    );
+    write_one(b"IMU counts:", Row::imu_counts(4098, 0, 0, 0, 0, 0, 0));
+    write(b"nine numbers:", &[1, 4098, 0, 5, 3, 1, 0, 0, 0]);
 }

@@ -25,4 +25,5 @@ fn main() {
     evt3_cases::reads();
     evt2_cases::reads();
     evt2_cases::writes();
+    evt3_cases::writes();
 }

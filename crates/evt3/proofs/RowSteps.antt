@@ -2,10 +2,9 @@
 use mathlib.Core.Path.{_≡_, refl, sym, _∙_, ap, subst}
 use Prim.Native.Nat.{ℕ, _+_, _*_, _/_, _≤_, _<_}
 use native.Mathlib.Omega.{arith}
-use mathlib.Core.Bool.{Bool, true, false, cond, _&&_}
+use mathlib.Core.Bool.{Bool, true, false, _&&_}
 use mathlib.Core.List.{List, [], _++_}
 use lib.ListN.{length, length-append}
-use lib.Seq.{sets}
 use lib.Dec.{ltb, eqb}
 use borrow.Author.Tests.{eqb-true}
 use Rattle.rows.specs.declared.fault.Fault.{Fault}
@@ -17,9 +16,8 @@ use Rattle.rows.specs.Row.{timeOf, roomOf, rowFrom, rowsOf}
 use Rattle.rows.specs.Rules.{kindOf, accepted, judgedOf, verdictFrom}
 use Rattle.rows.proofs.GoodRows.{and-first, and-second}
 use Rattle.rows.proofs.Judged.{accepted-writable, judged-is-time, judged-later, judged-good}
-use Rattle.words.specs.Words.{bytesOfAll}
 use Rattle.words.specs.Writer.{spelled, writingOf, PutWords}
-use Rattle.words.proofs.Walks.{walked, Counting, counting-start, counting-done, counting-refused, counting-next, Putting, putting-start, putting-length, putting-close, row-fits, putting-next}
+use Rattle.words.proofs.Walks.{walked, Counting, counting-start, counting-done, counting-refused, counting-next, Putting, putting-start, putting-close, row-fits, putting-next}
 use Rattle.evt3.specs.declared.span.Span.{Span}
 use Rattle.evt3.specs.declared.told.Told.{Told}
 use Rattle.evt3.specs.Spelling.{writable, timeWords, yWords, nothingTold, timeTold, lineTold, spelling}

@@ -1,9 +1,9 @@
 -- The pixels in hand, case by case as the code finds them.
-use mathlib.Core.Path.{_≡_, refl, _∙_, ap}
+use mathlib.Core.Path.{_≡_, _∙_, ap}
 use Prim.Native.Nat.{ℕ, _+_, _-_, _%_, _^_, _≤_, _<_}
 use native.Mathlib.Omega.{arith}
-use mathlib.Core.Bool.{Bool, true, false, cond, _&&_, not}
-use lib.Dec.{leb, ltb, eqb}
+use mathlib.Core.Bool.{true, false, _&&_, not}
+use lib.Dec.{leb, eqb}
 use borrow.Author.Tests.{lt-ltb, le-ltb, le-leb, lt-leb, leb-true, ltb-true}
 use Rattle.rows.proofs.GoodRows.{and-first, and-second}
 use Rattle.evt3.specs.declared.span.Span.{Span}

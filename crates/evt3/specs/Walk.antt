@@ -14,7 +14,7 @@ use Rattle.rows.specs.Rules.{accepted, verdictFrom}
 use Rattle.words.specs.Writer.{spelled}
 use Rattle.evt3.specs.declared.span.Span.{Span}
 use Rattle.evt3.specs.declared.told.Told.{Told}
-use Rattle.evt3.specs.Spelling.{writable, xWord, baseWord, vectorWord, triggerWord, timeWords, yWords, timeTold, lineTold, spelling}
+use Rattle.evt3.specs.Spelling.{writable, xWord, baseWord, vectorWord, triggerWord, timeWords, yWords, spelling}
 
 -- pixels of a row group that are not written yet, within twelve columns from a base on: none, or the first of them
 abbrev pub noSpan : Span

@@ -1,13 +1,20 @@
-// EVT3: words of two bytes that say only what changed. Source document 003 has the layout; 01, "EVT3 words", the rules.
+// EVT3: words of two bytes that say only what changed. Source document 003 has the layout; 01, "EVT3 words" and "Spelling", the rules.
 //
 //     read(bytes, width, height, rows)     the rows of a stream of words, into a lent slice
+//     write(rows, out)                     the words of a list of rows, into a lent slice
 //
-// Refused: 1 too long, 14 the picture's size, then word by word 4 half a word at the end, 3 a reserved type, 7 a slave
+// Reading is refused: 1 too long, 14 the picture's size, then word by word 4 half a word at the end, 3 a reserved type, 7 a slave
 // camera, 5 the 1,024th wrap of the clock, 6 a pixel outside the picture, 2 no room for a word's rows. The rows finished before
 // the fault are in the slice, nothing past them is touched, and the answer has their count and the place of the word.
 //
+// Writing is refused: 13 the list's length, then row by row 12 a bad row, or one that these words cannot say, and 5 a time that goes
+// back, then 2 a slice shorter than the words. A refused writer touches nothing. Four words an event are enough, and two more for each
+// wrap of the clock up to the last time.
+//
 // The reader's state is a struct by value: for each kind of word that changes it, a method takes the word and hands back the
-// next state. specs/Words.antt says what each word does, specs/Reader.antt what any bytes give.
+// next state. specs/Words.antt says what each word does, specs/Reader.antt what any bytes give, specs/Spelling.antt what any list of rows
+// is written as. The writer holds what it has told and the pixels of a row group that are not written yet, and writes those when it is
+// known how: as one pixel, as a base and a vector, or as a vector from the last base on.
 mod given;
 mod kind;
 mod length;

@@ -4,7 +4,7 @@ use Rattle.evt3.proofs.Lengths.{span-none, span-vector, span-single}
 use Rattle.words.proofs.Writes.{put-none}
 use lib.ListN.{length}
 use native.Mathlib.Omega.{arith}
-use mathlib.Core.Path.{sym, _∙_, ap}
+use mathlib.Core.Path.{ap}
 use borrow.Author.Needs.{needs}
 use Rattle.evt3.proofs.put.put_span.Statement.{statement}
 use Rattle.evt3.proofs.put.put_span.Tie as tie

@@ -5,7 +5,7 @@ use native.Mathlib.Omega.{arith}
 use native.Mathlib.Nat.{pow-suc}
 use mathlib.Core.Bool.{true, false}
 use mathlib.Core.List.{List, [], _∷_, _++_, append-assoc}
-use lib.ListN.{length, length-append}
+use lib.ListN.{length, set, length-append}
 use lib.Seq.{sets, take-at, drop-at}
 use borrow.Author.Tests.{le-leb, lt-leb}
 use Rattle.rows.proofs.Stored.{sets-append}
@@ -38,6 +38,22 @@ stored-more l at k w =
     ap (λ (n : ℕ). sets (sets l at (bytesOf k w)) (at + n) (upper k w % 256 ∷ [])) (sym (bytes-length k w))
     ∙ sym (sets-append (bytesOf k w) (upper k w % 256 ∷ []) l at)
     ∙ ap (sets l at) (sym (bytes-more k w))
+
+-- a word of two bytes or four, stored with no loop
+pub stored-two : (l : List ℕ) (at w : ℕ) → set (set l at (w % 256)) (at + 1) (w / 256 % 256) ≡ sets l at (bytesOf 2 w)
+unfolding bytesOf
+stored-two l at w = let e₁ : at + 1 ≡ suc at = omega arith in rw e₁
+
+pub stored-four : (l : List ℕ) (at w : ℕ)
+    → set (set (set (set l at (w % 256)) (at + 1) (w / 256 % 256)) (at + 2) (w / 65536 % 256)) (at + 3) (w / 16777216 % 256) ≡ sets l at (bytesOf 4 w)
+unfolding bytesOf
+stored-four l at w =
+    let e₁ : at + 1 ≡ suc at = omega arith in
+    let e₂ : at + 2 ≡ suc (suc at) = omega arith in
+    let e₃ : at + 3 ≡ suc (suc (suc at)) = omega arith in
+    let b₂ : w / 65536 % 256 ≡ w / 256 / 256 % 256 = omega arith in
+    let b₃ : w / 16777216 % 256 ≡ w / 256 / 256 / 256 % 256 = omega arith in
+    rw (e₁, e₂, e₃, b₂, b₃)
 
 module _ {old : List ℕ} {at size w : ℕ} where
   pub put-word-none : length old < at + size → PutWord old at size w old false

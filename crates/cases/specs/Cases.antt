@@ -1,4 +1,4 @@
--- The cases that 01 marks with a star, as one list: an input, and what is seen of it. So far those of EVT2 and EVT3.
+-- The cases that 01 marks with a star, as one list: an input, and what is seen of it. So far those of EVT2, EVT3 and DAT.
 use mathlib.Core.Path.{_≡_}
 use Prim.Native.Nat.{ℕ}
 use mathlib.Core.Bool.{Bool, true, cond}
@@ -20,22 +20,26 @@ use Rattle.words.specs.Picture.{pictureOf}
 use Rattle.words.specs.Writer.{spelled, writingVerdict}
 use Rattle.evt2.specs.declared.state.State as evt2State
 use Rattle.evt2.specs.Reader as evt2Reader
+use Rattle.dat.specs.declared.state.State as datState
+use Rattle.dat.specs.Reader as datReader
 use Rattle.evt3.specs.declared.state.State.{State}
 use Rattle.evt3.specs.Reader.{readingOf}
 use Rattle.evt3.specs.Spelling.{spelling}
 use Rattle.evt3.specs.State.{fresh, withHigh, withTime, withY, withBase}
 
--- what is read, EVT2 or EVT3 words, for a picture of 2,048 by 2,048; or what is written as EVT3 words, rows
+-- what is read, EVT2 or EVT3 words, for a picture of 2,048 by 2,048, or the bytes of a DAT file; or what is written as EVT3 words, rows
 pub data Input : Type 0 where
   evt2 : List ℕ → Input
   evt3 : List ℕ → Input
+  dat : List ℕ → Input
   toEvt3 : List Row → Input
 
--- how the reading ends: in a state (of EVT2, whether a high part is known, which, and how many words of a group are to come), or by
--- a refusal at a place; of a writing the verdict and the words
+-- how the reading ends: in a state (of EVT2, whether a high part is known, which, and how many words of a group are to come; of DAT, the
+-- last time), or by a refusal at a place; of a writing the verdict and the words
 pub data Final : Type 0 where
   evt2Ends : Bool → ℕ → ℕ → Final
   evt3Ends : State → Final
+  datEnds : ℕ → Final
   refusedAt : Fault → ℕ → Final
   writes : Verdict → List ℕ → Final
 
@@ -71,6 +75,13 @@ evt3Final (refused f place) = refusedAt f place
 abbrev pub evt3Seen : Run (Reached State) → Seen
 evt3Seen run = record { rows = run .rows; final = evt3Final (run .ending); readings = allReadings (run .rows) }
 
+abbrev pub datFinal : Ending (Reached datState.State) → Final
+datFinal (finished r) = datEnds (r .state .last)
+datFinal (refused f place) = refusedAt f place
+
+abbrev pub datSeen : Run (Reached datState.State) → Seen
+datSeen run = record { rows = run .rows; final = datFinal (run .ending); readings = allReadings (run .rows) }
+
 abbrev pub evt3Written : List Row → Seen
 evt3Written rs =
     record { rows = rs; final = writes (writingVerdict spelling (flat rs) 100) (spelled spelling (flat rs)); readings = allReadings rs }
@@ -79,6 +90,7 @@ evt3Written rs =
 abbrev pub seenOf : Input → Seen
 seenOf (evt2 ws) = evt2Seen (evt2Reader.readingOf (pictureOf 2048 2048) (bytesOfAll 4 ws) 100)
 seenOf (evt3 ws) = evt3Seen (readingOf (pictureOf 2048 2048) (bytesOfAll 2 ws) 100)
+seenOf (dat bytes) = datSeen (datReader.readingOf bytes 100)
 seenOf (toEvt3 rs) = evt3Written rs
 
 -- a case, and that it holds
@@ -152,6 +164,11 @@ starCases =
     ∷ record {
       input = evt2 (0x80000001 ∷ 0xD0010000 ∷ still);
       seen = record { rows = countsRow 64 32768 0 0 0 0 0 ∷ []; final = evt2Ends true 1 0; readings = ofInt binary32 (negsuc 1) ∷ zeros };
+    }
+    -- DAT: one pixel, after the two bytes that every file has there
+    ∷ record {
+      input = dat (0x00 ∷ 0x08 ∷ 0x64 ∷ 0x00 ∷ 0x00 ∷ 0x00 ∷ 0x05 ∷ 0xC0 ∷ 0x00 ∷ 0x10 ∷ []);
+      seen = record { rows = pixelRow 100 5 3 1 ∷ []; final = datEnds 100; readings = [] };
     }
     -- x 5, 6 and 40 written
     ∷ record {

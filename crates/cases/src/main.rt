@@ -3,6 +3,7 @@
 mod answers;
 mod evt2_cases;
 mod evt3_cases;
+mod file_cases;
 mod row_cases;
 mod text;
 mod word_cases;
@@ -26,4 +27,7 @@ fn main() {
     evt2_cases::reads();
     evt2_cases::writes();
     evt3_cases::writes();
+    file_cases::headers();
+    file_cases::raws();
+    file_cases::dats();
 }

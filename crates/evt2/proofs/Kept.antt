@@ -8,6 +8,7 @@ use lib.Dec.{eqb, lit<}
 use borrow.Author.Tests.{leb-true}
 use Rattle.rows.specs.Row.{roomOf, rowsOf}
 use Rattle.rows.specs.Rules.{AllGood, goodLength, Writable}
+use Rattle.rows.specs.Runs.{EndsWithin}
 use Rattle.rows.proofs.GoodRows.{and-second}
 use Rattle.rows.proofs.Judged.{accepted-list}
 use Rattle.rows.proofs.Lists.{rows-of-length, all-narrow}
@@ -17,15 +18,16 @@ use Rattle.words.specs.Machine.{readFrom}
 use Rattle.words.specs.Words.{wordsOf}
 use Rattle.words.specs.Picture.{admissionOf, admitted}
 use Rattle.words.specs.Writer.{spelled}
-use Rattle.words.proofs.Kept.{rows-good}
+use Rattle.words.proofs.Kept.{rows-good, places-within}
 use Rattle.words.proofs.ReadBack.{Goes, goes-finishes}
 use Rattle.words.proofs.Writes.{all-length}
 use Rattle.evt2.specs.declared.state.State.{State}
 use Rattle.evt2.specs.State.{fresh}
 use Rattle.evt2.specs.Reader.{machine}
 use Rattle.evt2.specs.Spelling.{writable, spelling}
-use Rattle.evt2.specs.Promises.{ReadGood, SpelledShort, SpelledRead, ReadBack}
+use Rattle.evt2.specs.Promises.{ReadGood, ReadWithin, SpelledShort, SpelledRead, ReadBack}
 use Rattle.evt2.proofs.GoodRead.{Limits, fresh-limits, machine-keeps}
+use Rattle.evt2.proofs.Places.{BegunBy, fresh-begun, machine-follows}
 use Rattle.evt2.proofs.ReadBack.{Shows, rows-back}
 use Rattle.evt2.proofs.SpelledSteps.{widest}
 use Rattle.evt2.proofs.Spelled.{words-short}
@@ -36,6 +38,13 @@ read-good p bytes room = go (admissionOf (length bytes) p)
     go : (a : Admission) → AllGood (admitted a (readFrom (machine p) bytes fresh 0 room) .rows)
     go Admitted = rows-good State (machine p) Limits (machine-keeps p) (wordsOf 4 bytes) fresh 0 room fresh-limits
     go (Refused f) = tt
+
+pub read-within : ReadWithin
+read-within p bytes room = go (admissionOf (length bytes) p)
+  where
+    go : (a : Admission) → EndsWithin (admitted a (readFrom (machine p) bytes fresh 0 room) .ending) (length bytes)
+    go Admitted = places-within State (machine p) BegunBy (machine-follows p) bytes fresh 0 room fresh-begun (omega arith)
+    go (Refused f) = omega arith
 
 pub spelled-short : SpelledShort
 spelled-short rs = words-short false 0 rs

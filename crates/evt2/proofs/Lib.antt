@@ -1,6 +1,7 @@
 -- Lemmas, and the laws proved (Kept).
 pub mod GoodRead
 pub mod Kept
+pub mod Places
 pub mod ReadBack
 pub mod RowSteps
 pub mod Spelled

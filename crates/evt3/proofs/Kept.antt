@@ -1,20 +1,23 @@
 -- Each law of specs/Promises.antt, proved.
+use Prim.Native.Nat.{ℕ}
+use native.Mathlib.Omega.{arith}
 use lib.ListN.{length}
 use Rattle.rows.specs.Row.{rowsOf}
 use Rattle.rows.specs.Rules.{AllGood}
+use Rattle.rows.specs.Runs.{EndsWithin}
 use Rattle.rows.proofs.Judged.{accepted-list}
 use Rattle.rows.proofs.Lists.{all-narrow}
 use Rattle.words.specs.declared.picture.Admission.{Admission}
 use Rattle.words.specs.declared.picture.Admission.the-variants.{Admitted, Refused}
-use Rattle.words.specs.Machine.{readFrom}
+use Rattle.words.specs.Machine.{readFrom, Follows}
 use Rattle.words.specs.Words.{wordsOf}
 use Rattle.words.specs.Picture.{admissionOf, admitted}
-use Rattle.words.proofs.Kept.{rows-good}
+use Rattle.words.proofs.Kept.{rows-good, places-within}
 use Rattle.evt3.specs.declared.state.State.{State}
 use Rattle.evt3.specs.State.{fresh}
 use Rattle.evt3.specs.Reader.{machine}
 use Rattle.evt3.specs.Spelling.{writable}
-use Rattle.evt3.specs.Promises.{ReadGood, ReadBack, SpelledShort, SpelledNone, SpelledRead, GroupsCut, ColumnsShort}
+use Rattle.evt3.specs.Promises.{ReadGood, ReadWithin, ReadBack, SpelledShort, SpelledNone, SpelledRead, GroupsCut, ColumnsShort}
 use Rattle.evt3.proofs.GoodRead.{Limits, fresh-limits, machine-keeps}
 use Rattle.evt3.proofs.Groups.{groups-good}
 use Rattle.evt3.proofs.GroupsCut as cut
@@ -27,6 +30,20 @@ read-good p bytes room = go (admissionOf (length bytes) p)
     go : (a : Admission) → AllGood (admitted a (readFrom (machine p) bytes fresh 0 room) .rows)
     go Admitted = rows-good State (machine p) Limits (machine-keeps p) (wordsOf 2 bytes) fresh 0 room fresh-limits
     go (Refused f) = tt
+
+-- no word begins a group, so nothing is asked of the state
+pub read-within : ReadWithin
+read-within p bytes room = go (admissionOf (length bytes) p)
+  where
+    Any : State → ℕ → Type 0
+    Any s place = Unit {0}
+
+    follows : Follows (machine p) Any
+    follows = record { origin = λ s place h. omega arith; step = λ s place w s′ new h e. tt }
+
+    go : (a : Admission) → EndsWithin (admitted a (readFrom (machine p) bytes fresh 0 room) .ending) (length bytes)
+    go Admitted = places-within State (machine p) Any follows bytes fresh 0 room tt (omega arith)
+    go (Refused f) = omega arith
 
 pub spelled-short : SpelledShort
 spelled-short = short.spelled-short

@@ -7,7 +7,7 @@ use lib.ListN.{length}
 use Rattle.rows.specs.declared.row.Row.{Row}
 use Rattle.rows.specs.Row.{timeOf, Narrow, roomOf, rowsOf}
 use Rattle.rows.specs.Rules.{AllGood, accepted, verdictOf}
-use Rattle.rows.specs.Runs.{Finishes}
+use Rattle.rows.specs.Runs.{EndsWithin, Finishes}
 use Rattle.words.specs.declared.picture.Picture.{Picture}
 use Rattle.words.specs.Picture.{pictureOf}
 use Rattle.words.specs.Words.{bytesOfAll}
@@ -18,6 +18,10 @@ use Rattle.evt3.specs.Spelling.{writable, goesOn, Group, groupsOf, group
 -- 01, demand 2 and "Rows": every row that the reader gives is a good row by the row rules
 abbrev pub ReadGood : Type 0
 ReadGood = (p : Picture) (bytes : List ℕ) (room : ℕ) → AllGood (readingOf p bytes room .rows)
+
+-- 01, "Refusal numbers": a refusal's place lies in the input, or at its end
+abbrev pub ReadWithin : Type 0
+ReadWithin = (p : Picture) (bytes : List ℕ) (room : ℕ) → EndsWithin (readingOf p bytes room .ending) (length bytes)
 
 -- 01, demand 2: what is written of a list reads back as that list, in the widest picture, with a row of room for each event
 abbrev pub ReadBack : Type 0

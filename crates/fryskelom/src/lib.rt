@@ -8,10 +8,16 @@ ghost use Rattle.rows.specs.Row.{roomOf};
 ghost use Rattle.rows.specs.Runs.{ReadNumbers};
 ghost use Rattle.words.specs.Picture.{pictureOf};
 ghost use Rattle.words.specs.Writer.{WroteNumbers};
+ghost use Rattle.header.specs.Header.{headerOf, headerNumbers};
 ghost use Rattle.evt2.specs.Reader as evt2;
 ghost use Rattle.evt2.specs.Spelling as evt2Words;
 ghost use Rattle.evt3.specs.Reader as evt3;
 ghost use Rattle.evt3.specs.Spelling as evt3Words;
+ghost use Rattle.raw.specs.declared.reader.Format.the-variants.{Evt2, Evt3};
+ghost use Rattle.raw.specs.Reader as raw;
+ghost use Rattle.dat.specs.Reader as dat;
+use header::HeaderNumbers;
+use raw::Format;
 use rows::EventNumbers;
 use rows::ReadingNumbers;
 use rows::WritingNumbers;
@@ -64,4 +70,36 @@ pub extern "C" fn fry_write_evt3(rows: &[u32], out: &mut [u8]) -> WritingNumbers
     ensures { λ r. ⌜ WroteNumbers evt3Words.spelling (now (rows .entry)) (now (out .entry)) (now (out .exit)) r ⌝ }
 {
     evt3::write(rows, out).numbers()
+}
+
+// The text header of a RAW or DAT file.
+#[no_mangle]
+pub extern "C" fn fry_read_header(bytes: &[u8], limit: u32) -> HeaderNumbers
+    ensures { λ r. ⌜ r ≡ headerNumbers (headerOf limit (now (bytes .entry))) ⌝ }
+{
+    header::read(bytes, limit).numbers()
+}
+
+// The rows of a RAW file of EVT2 words.
+#[no_mangle]
+pub extern "C" fn fry_read_raw_evt2(bytes: &[u8], rows: &mut [u32]) -> ReadingNumbers
+    ensures { λ r. ⌜ ReadNumbers (raw.readingOf Evt2 (now (bytes .entry)) (roomOf (now (rows .entry)))) (now (rows .entry)) (now (rows .exit)) r ⌝ }
+{
+    raw::read(bytes, Format::Evt2, rows).numbers()
+}
+
+// The rows of a RAW file of EVT3 words.
+#[no_mangle]
+pub extern "C" fn fry_read_raw_evt3(bytes: &[u8], rows: &mut [u32]) -> ReadingNumbers
+    ensures { λ r. ⌜ ReadNumbers (raw.readingOf Evt3 (now (bytes .entry)) (roomOf (now (rows .entry)))) (now (rows .entry)) (now (rows .exit)) r ⌝ }
+{
+    raw::read(bytes, Format::Evt3, rows).numbers()
+}
+
+// The rows of a DAT file.
+#[no_mangle]
+pub extern "C" fn fry_read_dat(bytes: &[u8], rows: &mut [u32]) -> ReadingNumbers
+    ensures { λ r. ⌜ ReadNumbers (dat.readingOf (now (bytes .entry)) (roomOf (now (rows .entry)))) (now (rows .entry)) (now (rows .exit)) r ⌝ }
+{
+    dat::read(bytes, rows).numbers()
 }

@@ -53,6 +53,19 @@ endingAs f (refused fault place) = refused fault place
 abbrev pub runAs : {S T : Type 0} → (S → T) → Run S → Run T
 runAs f r = record { rows = r .rows; ending = endingAs f (r .ending) }
 
+-- a run of what lies from a place of the input on, its places counted from the input's start
+abbrev pub endingFrom : {S : Type 0} → ℕ → Ending S → Ending S
+endingFrom at (finished s) = finished s
+endingFrom at (refused f place) = refused f (at + place)
+
+abbrev pub runFrom : {S : Type 0} → ℕ → Run S → Run S
+runFrom at r = record { rows = r .rows; ending = endingFrom at (r .ending) }
+
+-- a refusal lies in an input of so many bytes, or at its end
+abbrev pub EndsWithin : {S : Type 0} → Ending S → ℕ → Type 0
+EndsWithin (finished s) bytes = Unit {0}
+EndsWithin (refused f place) bytes = place ≤ bytes
+
 -- what a reader answers of an ending after n rows
 abbrev pub answerOf : {S : Type 0} → Ending S → ℕ → Reading
 answerOf (finished s) n = Finished n

@@ -5,6 +5,7 @@ pub mod BitFields
 pub mod Bytes
 pub mod Cut
 pub mod Kept
+pub mod Places
 pub mod ReadBack
 pub mod Returned
 pub mod RowsGiven

@@ -1,6 +1,6 @@
 -- A machine that reads words, over any state: what a word does, and what a run of words gives.
 use mathlib.Core.Path.{_≡_}
-use Prim.Native.Nat.{ℕ, _+_}
+use Prim.Native.Nat.{ℕ, _+_, _≤_}
 use mathlib.Core.Bool.{Bool, cond}
 use mathlib.Core.List.{List, []}
 use lib.ListN.{drop}
@@ -71,3 +71,8 @@ readFrom m bytes s at room = reading m (wordsOf (m .size) (drop at bytes)) s at 
 -- a machine that keeps a property of its state gives good rows from it on
 pub record Keeps {S : Type 0} (m : Machine S) (Kept : S → Type 0) : Type 0 where
   pub step : (s : S) (place w : ℕ) (s′ : S) (new : List Row) → Kept s → m .step s place w ≡ next s′ new → Kept s′ × AllGood new
+
+-- a machine whose group in hand never begins past the word at hand; a property of the state and the place says so
+pub record Follows {S : Type 0} (m : Machine S) (Kept : S → ℕ → Type 0) : Type 0 where
+  pub origin : (s : S) (place : ℕ) → Kept s place → m .origin s place ≤ place
+  pub step : (s : S) (place w : ℕ) (s′ : S) (new : List Row) → Kept s place → m .step s place w ≡ next s′ new → Kept s′ (place + m .size)

@@ -5,10 +5,10 @@ use mathlib.Core.List.{List, [], _∷_, _++_}
 use lib.ListN.{length}
 use Rattle.rows.specs.declared.fault.Fault.the-variants.{NoRoom}
 use Rattle.rows.specs.Rules.{AllGood, accepted, refused, verdictOf}
-use Rattle.rows.specs.Runs.{andThen}
+use Rattle.rows.specs.Runs.{andThen, EndsWithin}
 use Rattle.words.specs.Words.{Words, word, wordsOf, bytesOfAll}
 use Rattle.words.specs.Fields.{field, typed, placed}
-use Rattle.words.specs.Machine.{Machine, run, reading, Keeps}
+use Rattle.words.specs.Machine.{Machine, run, reading, readFrom, Keeps, Follows}
 use Rattle.words.specs.Writer.{Spelling, spelled, writingVerdict}
 
 -- a field is below 2^width
@@ -64,3 +64,8 @@ RowsFit = (S : Type 0) (m : Machine S) (ws : Words) (s : S) (place room : ℕ) �
 -- a machine whose every word gives good rows gives good rows alone
 abbrev pub RowsGood : Type 1
 RowsGood = (S : Type 0) (m : Machine S) (Kept : S → Type 0) → Keeps m Kept → (ws : Words) (s : S) (place room : ℕ) → Kept s → AllGood (reading m ws s place room .rows)
+
+-- 01, "Refusal numbers": a refusal's place lies in the input, or at its end, for every machine that follows its words
+abbrev pub PlacesWithin : Type 1
+PlacesWithin = (S : Type 0) (m : Machine S) (Kept : S → ℕ → Type 0) → Follows m Kept → (bytes : List ℕ) (s : S) (at room : ℕ) → Kept s at → at ≤ length bytes
+    → EndsWithin (readFrom m bytes s at room .ending) (length bytes)

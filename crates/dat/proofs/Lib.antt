@@ -1,0 +1,5 @@
+-- Lemmas, and the laws proved (Kept).
+pub mod GoodRead
+pub mod Kept
+pub mod Places
+pub mod Steps

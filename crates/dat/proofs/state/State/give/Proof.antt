@@ -1,0 +1,67 @@
+-- `dat::state::State::give` meets its contract.
+use Rattle.words.proofs.Wrote.{gave-refused, gave-row}
+use Rattle.dat.specs.Words.{eventOf}
+use borrow.Author.Tests.{lt-ltb, le-ltb, le-leb, lt-leb}
+use borrow.Author.Needs.{needs}
+use mathlib.Core.Path.{sym, _∙_}
+use Rattle.dat.proofs.state.State.give.Statement.{statement}
+use Rattle.dat.proofs.state.State.give.Tie as tie
+
+cast-if1 : tie.Need-cast-if1
+cast-if1 c = search needs
+
+returns : tie.Need-returns
+unfolding eventOf
+returns c = simp (lt-ltb _ _ (c .if1 .taken)) (gave-refused _ _ _)
+
+cast-x : tie.Need-cast-x
+cast-x c = search needs
+
+cast-y : tie.Need-cast-y
+cast-y c = search needs
+
+holds-requires : tie.Need-holds-requires
+holds-requires c κs = search needs
+
+cast-polarity : tie.Need-cast-polarity
+cast-polarity c = search needs
+
+pixel-requires : tie.Need-pixel-requires
+pixel-requires c κs = search needs
+
+give-requires : tie.Need-give-requires
+give-requires c κs = search needs
+
+same-length : tie.Need-same-length
+same-length c = search needs
+
+returns-2 : tie.Need-returns-2
+unfolding eventOf
+returns-2 c =
+    let d = c .before .before .before .before .before in
+    simp (le-ltb _ _ (d .before .before .before .if1 .left), sym (d .before .before .holds .ensures) ∙ d .before .if2 .taken, le-leb _ _ (d .if3 .taken)) (gave-row (c .before .before .before .pixel .ensures) (c .before .before .give .ensures))
+
+returns-3 : tie.Need-returns-3
+unfolding eventOf
+returns-3 c = simp (le-ltb _ _ (c .before .before .before .if1 .left), sym (c .before .before .holds .ensures) ∙ c .before .if2 .taken, lt-leb _ _ (c .if3 .left)) (gave-refused _ _ _)
+
+returns-4 : tie.Need-returns-4
+unfolding eventOf
+returns-4 c = simp (le-ltb _ _ (c .before .before .if1 .left), sym (c .before .holds .ensures) ∙ c .if2 .left) (gave-refused _ _ _)
+
+pub give-spec : {M : Type 1} → statement M
+give-spec =
+    tie.close
+    (tie.spec
+    cast-if1
+    returns
+    cast-x
+    cast-y
+    holds-requires
+    cast-polarity
+    pixel-requires
+    give-requires
+    same-length
+    returns-2
+    returns-3
+    returns-4)

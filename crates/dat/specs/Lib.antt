@@ -1,0 +1,4 @@
+-- Definitions that the contracts cite, and the laws.
+pub mod Promises
+pub mod Reader
+pub mod Words

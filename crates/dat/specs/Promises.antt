@@ -1,0 +1,15 @@
+-- The laws of this crate, each proved in proofs/Kept.antt under the name in lower case.
+use Prim.Native.Nat.{ℕ}
+use mathlib.Core.List.{List}
+use lib.ListN.{length}
+use Rattle.rows.specs.Rules.{AllGood}
+use Rattle.rows.specs.Runs.{EndsWithin}
+use Rattle.dat.specs.Reader.{readingOf}
+
+-- 01, demand 2 and "Rows": every row that the reader gives is a good row by the row rules
+abbrev pub ReadGood : Type 0
+ReadGood = (bytes : List ℕ) (room : ℕ) → AllGood (readingOf bytes room .rows)
+
+-- 01, "Refusal numbers": a refusal's place lies in the file, or at its end
+abbrev pub ReadWithin : Type 0
+ReadWithin = (bytes : List ℕ) (room : ℕ) → EndsWithin (readingOf bytes room .ending) (length bytes)

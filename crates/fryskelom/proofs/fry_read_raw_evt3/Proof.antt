@@ -1,0 +1,20 @@
+-- `fryskelom::fry_read_raw_evt3` meets its contract.
+use Rattle.rows.proofs.Sofar.{reads-numbers}
+use borrow.Author.Needs.{needs}
+use Rattle.fryskelom.proofs.fry_read_raw_evt3.Statement.{statement}
+use Rattle.fryskelom.proofs.fry_read_raw_evt3.Tie as tie
+
+read-requires : tie.Need-read-requires
+read-requires c κs = search needs
+
+numbers-requires : tie.Need-numbers-requires
+numbers-requires c κs = search needs
+
+same-length : tie.Need-same-length
+same-length c = search needs
+
+returns : tie.Need-returns
+returns c = reads-numbers (c .before .before .before .read .ensures) (c .numbers .ensures)
+
+pub fry-read-raw-evt3-spec : {M : Type 1} → statement M
+fry-read-raw-evt3-spec = tie.close (tie.spec read-requires numbers-requires same-length returns)

@@ -1,0 +1,120 @@
+-- The number of digits, one by one; and what is no number: a comma or a point among them.
+use mathlib.Core.Path.{_≡_, refl, sym, _∙_, ap}
+use Prim.Native.Nat.{ℕ, zero, suc, _+_, _-_, _*_, _≤_, _<_}
+use native.Mathlib.Omega.{arith}
+use native.Mathlib.Numerals.{add-one}
+use mathlib.Core.Bool.{Bool, true, false, cond, _&&_, and-false}
+use mathlib.Core.List.{List, [], _∷_}
+use lib.ListN.{length, drop, getD, drop-of-length-le}
+use lib.Dec.{leb, eqb}
+use borrow.Author.Tests.{le-leb, lt-leb, ne-eqb}
+use Rattle.header.specs.declared.value.Value.{Value}
+use Rattle.header.specs.declared.value.Value.the-variants.{Number, Malformed}
+use Rattle.header.specs.Sides.{isDigit, areDigits, decimal, numberOf, spaced, valueOf}
+use Rattle.header.proofs.LineEnds.{drop-at}
+
+-- ten to the power of i
+unfoldable pub tens : ℕ → ℕ
+tens zero = 1
+tens (suc i) = tens i * 10
+
+tens-few : (i : ℕ) → i < 5 → tens i ≤ 10000
+unfolding tens
+tens-few zero h = omega arith
+tens-few (suc zero) h = omega arith
+tens-few (suc (suc zero)) h = omega arith
+tens-few (suc (suc (suc zero))) h = omega arith
+tens-few (suc (suc (suc (suc zero)))) h = omega arith
+tens-few (suc (suc (suc (suc (suc i))))) h = absurd (omega arith)
+
+pub number-short : (d : List ℕ) → length d < 1 → Malformed ≡ numberOf d
+unfolding numberOf
+number-short d h = simp (lt-leb _ _ h)
+
+pub number-long : (d : List ℕ) → 5 < length d → Malformed ≡ numberOf d
+unfolding numberOf
+number-long d h = simp (le-leb 1 (length d) (omega arith), lt-leb _ _ h)
+
+not-number : (d : List ℕ) → areDigits d ≡ false → numberOf d ≡ Malformed
+unfolding numberOf
+not-number d h = rw h (ap (λ (b : Bool). cond b (Number (decimal 0 d)) Malformed) (and-false (leb 1 (length d) && leb (length d) 5)))
+
+-- i digits make the number n
+pub record Counted (d : List ℕ) (n i : ℕ) : Type 0 where
+  pub digits : areDigits d ≡ areDigits (drop i d)
+  pub same : decimal 0 d ≡ decimal n (drop i d)
+  pub small : n < tens i
+
+pub counted-none : {d : List ℕ} → Counted d 0 0
+unfolding tens
+counted-none = record { digits = refl; same = refl; small = omega arith }
+
+module _ {d : List ℕ} {n i : ℕ} (h : Counted d n i) where
+  -- four digits or fewer, so that one more fits
+  pub counted-small : i < length d → length d ≤ 5 → n < 10000
+  counted-small p q = omega (arith, h .small, tens-few i (omega arith))
+
+  here : i < length d → areDigits d ≡ isDigit (getD d i 0) && areDigits (drop (i + 1) d)
+  unfolding areDigits
+  here p = h .digits ∙ ap areDigits (drop-at d i p)
+
+  pub counted-below : i < length d → getD d i 0 < 48 → Malformed ≡ numberOf d
+  counted-below p q = sym (not-number d (here p ∙ simp (lt-leb _ _ q)))
+
+  module _ (p : i < length d) (q : 48 ≤ getD d i 0) where
+    pub counted-above : 57 < getD d i 0 → Malformed ≡ numberOf d
+    counted-above r = sym (not-number d (here p ∙ simp (le-leb _ _ q, lt-leb _ _ r)))
+
+    pub counted-next : getD d i 0 ≤ 57 → Counted d (n * 10 + (getD d i 0 - 48)) (i + 1)
+    unfolding decimal tens
+    counted-next r =
+        record {
+          digits = here p ∙ simp (le-leb _ _ q, le-leb _ _ r);
+          same = h .same ∙ ap (decimal n) (drop-at d i p);
+          small = rw (add-one i) (omega (arith, h .small));
+        }
+
+  pub counted-all : 1 ≤ length d → length d ≤ 5 → length d ≤ i → Number n ≡ numberOf d
+  unfolding numberOf areDigits decimal
+  counted-all p q r =
+      let none : drop i d ≡ [] = drop-of-length-le d r in
+      simp (le-leb _ _ p, le-leb _ _ q, h .digits, h .same, none)
+
+-- a value that is empty
+pub spaced-none : (t : List ℕ) → length t < 1 → Malformed ≡ spaced t
+unfolding spaced
+spaced-none [] h = refl
+spaced-none (c ∷ t) h = absurd (omega arith)
+
+pub value-none : (t : List ℕ) → length t < 1 → Malformed ≡ valueOf t
+unfolding valueOf spaced
+value-none [] h = refl
+value-none (c ∷ t) h = absurd (omega arith)
+
+-- a byte that is no digit, no space and no colon, anywhere in a value
+module _ (c : ℕ) (digit : isDigit c ≡ false) (space : c ≡ 32 → ⊥) (colon : c ≡ 58 → ⊥) where
+  not-digits : (d : List ℕ) (i : ℕ) → i < length d → getD d i 0 ≡ c → areDigits d ≡ false
+  unfolding areDigits
+  not-digits [] i p e = absurd (omega arith)
+  not-digits (a ∷ d) zero p e = ap (λ (b : ℕ). isDigit b && areDigits d) e ∙ ap (λ (b : Bool). b && areDigits d) digit
+  not-digits (a ∷ d) (suc i) p e = ap (λ (b : Bool). isDigit a && b) (not-digits d i (omega arith) e) ∙ and-false (isDigit a)
+
+  not-spaced : (t : List ℕ) (i : ℕ) → i < length t → getD t i 0 ≡ c → spaced t ≡ Malformed
+  unfolding spaced
+  not-spaced [] i p e = absurd (omega arith)
+  not-spaced (a ∷ t) zero p e = simp (ne-eqb a 32 (λ f. space (sym e ∙ f)))
+  not-spaced (a ∷ t) (suc i) p e = either (eqb a 32) (not-number t (not-digits t i (omega arith) e))
+    where
+      either : (b : Bool) {v : Value} → v ≡ Malformed → cond b v Malformed ≡ Malformed
+      either true f = f
+      either false f = refl
+
+  pub not-value : (t : List ℕ) (i : ℕ) → i < length t → getD t i 0 ≡ c → valueOf t ≡ Malformed
+  unfolding valueOf
+  not-value [] i p e = absurd (omega arith)
+  not-value (a ∷ t) zero p e = simp (ne-eqb a 58 (λ f. colon (sym e ∙ f))) (not-spaced (a ∷ t) zero p e)
+  not-value (a ∷ t) (suc i) p e = either (eqb a 58) (not-spaced t i (omega arith) e) (not-spaced (a ∷ t) (suc i) p e)
+    where
+      either : (b : Bool) {v w : Value} → v ≡ Malformed → w ≡ Malformed → cond b v w ≡ Malformed
+      either true f g = f
+      either false f g = g

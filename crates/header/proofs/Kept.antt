@@ -1,0 +1,31 @@
+-- Each law of specs/Promises.antt, proved.
+use mathlib.Core.Path.{refl}
+use Prim.Native.Nat.{ℕ}
+use native.Mathlib.Omega.{arith}
+use mathlib.Core.Bool.{Bool, true, false, cond}
+use lib.ListN.{length}
+use lib.Dec.{ltb}
+use Rattle.rows.specs.declared.fault.Fault.the-variants.{TooLong}
+use Rattle.header.specs.declared.reader.Header.the-variants.{Refused}
+use Rattle.header.specs.Header.{headerFrom, unsaid, headerOf}
+use Rattle.header.specs.Promises.{NoSeparator, Within, HeaderWithin}
+use Rattle.header.proofs.Digits.{not-value}
+use Rattle.header.proofs.Within.{Small, lines-within}
+
+pub no-separator : NoSeparator
+no-separator =
+    record {
+      comma = not-value 44 refl (λ e. omega arith) (λ e. omega arith);
+      point = not-value 46 refl (λ e. omega arith) (λ e. omega arith);
+    }
+
+pub header-within : HeaderWithin
+unfolding headerOf
+header-within limit some bytes = go (ltb 1073741824 (length bytes))
+  where
+    unknown : Small limit unsaid
+    unknown = record { width = omega arith; height = omega arith }
+
+    go : (t : Bool) → Within limit (length bytes) (cond t (Refused TooLong 0) (headerFrom (length bytes) limit bytes 0 unsaid))
+    go true = omega arith
+    go false = lines-within limit some (length bytes) (length bytes) bytes 0 unsaid unknown (omega arith)

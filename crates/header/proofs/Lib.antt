@@ -1,0 +1,8 @@
+-- Lemmas, and the laws proved (Kept).
+pub mod Digits
+pub mod Files
+pub mod Keywords
+pub mod Kept
+pub mod LineEnds
+pub mod Lines
+pub mod Within

@@ -1,0 +1,110 @@
+-- The data begin in the input, and the sides are from 1 to the limit.
+use mathlib.Core.Path.{_≡_, refl}
+use Prim.Native.Nat.{ℕ, zero, suc, _+_, _-_, _≤_, _<_}
+use native.Mathlib.Omega.{arith}
+use mathlib.Core.Bool.{Bool, true, false, cond, _&&_}
+use mathlib.Core.List.{List}
+use lib.ListN.{length, take, drop, length-drop}
+use lib.Dec.{leb, eqb}
+use borrow.Author.Tests.{leb-true, eqb-false}
+use Rattle.rows.proofs.GoodRows.{and-second}
+use Rattle.header.specs.declared.line.Line.{Line}
+use Rattle.header.specs.declared.line.Line.the-variants.{Ends, Cut, Endless}
+use Rattle.header.specs.declared.reader.Header.{Header}
+use Rattle.header.specs.declared.reader.Step.{Step}
+use Rattle.header.specs.declared.reader.Step.the-variants.{Over, Stop, More}
+use Rattle.header.specs.declared.side.Judged.{Judged}
+use Rattle.header.specs.declared.side.Judged.the-variants.{Good, Bad}
+use Rattle.header.specs.declared.side.Side.{Side}
+use Rattle.header.specs.declared.side.Side.the-variants.{Width, Height, Other}
+use Rattle.header.specs.declared.side.Sides.{Sides}
+use Rattle.header.specs.declared.value.Value.{Value}
+use Rattle.header.specs.declared.value.Value.the-variants.{Number, Malformed}
+use Rattle.header.specs.Lines.{isLine, lineEnd}
+use Rattle.header.specs.Sides.{keywordLength, sideOf, valueOf, mayBe, withWidth, withHeight, judgedAs, judgedOf, orLimit}
+use Rattle.header.specs.Header.{judgedStep, lineStep, stepOf, dataAt, stepThen, headerFrom}
+use Rattle.header.specs.Promises.{Within}
+use Rattle.header.proofs.LineEnds.{EndIn, line-ends}
+
+module _ (limit : ℕ) where
+  -- what is known of the sides is within the limit
+  pub record Small (s : Sides) : Type 0 where
+    pub width : s .width ≤ limit
+    pub height : s .height ≤ limit
+
+  abbrev JudgedSmall : Judged → Type 0
+  JudgedSmall (Good s) = Small s
+  JudgedSmall Bad = Unit {0}
+
+  -- a side that a line gives
+  if-may : (before n : ℕ) (s : Sides) → (n ≤ limit → Small s) → (t : Bool) → mayBe limit before n ≡ t → JudgedSmall (cond t (Good s) Bad)
+  if-may before n s h true e = h (leb-true n limit (and-second (eqb before 0 && leb 1 n) (leb n limit) e))
+  if-may before n s h false e = tt
+
+  width-small : (v : Value) (s : Sides) → Small s → JudgedSmall (withWidth limit v s)
+  width-small (Number n) s h = if-may (s .width) n _ (λ k. record { width = k; height = h .height }) (mayBe limit (s .width) n) refl
+  width-small Malformed s h = tt
+
+  height-small : (v : Value) (s : Sides) → Small s → JudgedSmall (withHeight limit v s)
+  height-small (Number n) s h = if-may (s .height) n _ (λ k. record { width = h .width; height = k }) (mayBe limit (s .height) n) refl
+  height-small Malformed s h = tt
+
+  judged-small : (text : List ℕ) (s : Sides) → Small s → JudgedSmall (judgedOf limit text s)
+  unfolding judgedOf
+  judged-small text s h = go (sideOf (take (keywordLength text) text))
+    where
+      go : (side : Side) → JudgedSmall (judgedAs side limit (drop (keywordLength text) text) s)
+      go Width = width-small (valueOf (drop (keywordLength text) text)) s h
+      go Height = height-small (valueOf (drop (keywordLength text) text)) s h
+      go Other = h
+
+  -- a good line lies in the bytes, and keeps the sides within the limit
+  abbrev StepSmall : ℕ → Step → Type 0
+  StepSmall most Over = Unit {0}
+  StepSmall most (Stop f) = Unit {0}
+  StepSmall most (More long s) = (long ≤ most) × Small s
+
+  step-judged : (most i : ℕ) → i < most → (j : Judged) → JudgedSmall j → StepSmall most (judgedStep i j)
+  step-judged most i h (Good s) k = (omega arith, k)
+  step-judged most i h Bad k = tt
+
+  line-small : (b : List ℕ) (s : Sides) → Small s → (l : Line) → EndIn 0 (length b) l → StepSmall (length b) (lineStep l limit b s)
+  line-small b s k (Ends i) h = step-judged (length b) i (h .1) (judgedOf limit (take (i - 2) (drop 2 b)) s) (judged-small (take (i - 2) (drop 2 b)) s k)
+  line-small b s k Cut h = tt
+  line-small b s k Endless h = tt
+
+  step-small : (b : List ℕ) (s : Sides) → Small s → StepSmall (length b) (stepOf limit b s)
+  unfolding stepOf
+  step-small b s k = go (isLine b)
+    where
+      go : (t : Bool) → StepSmall (length b) (cond t (lineStep (lineEnd 256 b 0) limit b s) Over)
+      go true = line-small b s k (lineEnd 256 b 0) (line-ends b)
+      go false = tt
+
+  side-within : (some : 0 < limit) (n : ℕ) → n ≤ limit → (1 ≤ orLimit limit n) × (orLimit limit n ≤ limit)
+  side-within some n h = go (eqb n 0) refl
+    where
+      go : (t : Bool) → eqb n 0 ≡ t → (1 ≤ cond t limit n) × (cond t limit n ≤ limit)
+      go true e = (omega arith, omega arith)
+      go false e = let z : n ≡ 0 → ⊥ = eqb-false n 0 e in (omega (arith, z), h)
+
+  -- all of a header that begins at a place, before so many bytes
+  module _ (some : 0 < limit) (bytes : ℕ) where
+    over-within : (place : ℕ) (s : Sides) → Small s → place ≤ bytes → Within limit bytes (dataAt limit place s)
+    over-within place s k h =
+        let w : (1 ≤ orLimit limit (s .width)) × (orLimit limit (s .width) ≤ limit) = side-within some (s .width) (k .width) in
+        let v : (1 ≤ orLimit limit (s .height)) × (orLimit limit (s .height) ≤ limit) = side-within some (s .height) (k .height) in
+        (h, w .0, w .1, v .0, v .1)
+
+    pub lines-within : (most : ℕ) (b : List ℕ) (place : ℕ) (s : Sides) → Small s → place + length b ≤ bytes → Within limit bytes (headerFrom most limit b place s)
+    unfolding headerFrom
+    lines-within zero b place s k h = over-within place s k (omega arith)
+    lines-within (suc most) b place s k h =
+        go (stepOf limit b s) (step-small b s k) (λ long s′ p q. lines-within most (drop long b) (place + long) s′ q (omega (arith, length-drop long b)))
+      where
+        go : (r : Step) → StepSmall (length b) r
+            → ((long : ℕ) (s′ : Sides) → long ≤ length b → Small s′ → Within limit bytes (headerFrom most limit (drop long b) (place + long) s′))
+            → Within limit bytes (stepThen r limit place s (λ long s′. headerFrom most limit (drop long b) (place + long) s′))
+        go Over m ih = over-within place s k (omega arith)
+        go (Stop f) m ih = omega arith
+        go (More long s′) m ih = ih long s′ (m .0) (m .1)

@@ -1,0 +1,85 @@
+-- `header::reader::read` meets its contract.
+use Rattle.header.proofs.Lines.{Heading, heading-none, heading-long, heading-over, heading-stop, heading-moves, heading-more}
+use borrow.Author.Needs.{needs}
+use lib.ListN.{length}
+use native.Mathlib.Omega.{arith}
+use Prim.Native.Nat.{_-_}
+use Rattle.header.proofs.reader.read.Statement.{statement}
+use Rattle.header.proofs.reader.read.Tie as tie
+
+abbrev Inv-loop : tie.InvT-loop
+Inv-loop bytes limit at₀ sides₀ at sides = Heading limit bytes sides at
+
+abbrev μ-loop : tie.MeasureT-loop
+μ-loop bytes limit at₀ sides₀ at sides = length bytes - at
+
+returns : tie.Need-returns Inv-loop μ-loop
+returns c = heading-long _ _ (c .if1 .taken)
+
+loop-holds : tie.Need-loop-holds Inv-loop μ-loop
+loop-holds c = heading-none (c .if1 .left)
+
+sub-read-line : tie.Need-sub-read-line Inv-loop μ-loop
+sub-read-line c = omega (arith, c .loop .inv .within)
+
+part-read-line-start : tie.Need-part-read-line-start Inv-loop μ-loop
+part-read-line-start c = omega (arith, c .loop .inv .within)
+
+part-read-line-end : tie.Need-part-read-line-end Inv-loop μ-loop
+part-read-line-end c = omega (arith, c .loop .inv .within)
+
+read-line-requires : tie.Need-read-line-requires Inv-loop μ-loop
+read-line-requires c κs = search needs
+
+enum-told : tie.Need-enum-told Inv-loop μ-loop
+enum-told c = search needs
+
+or-limit-requires : tie.Need-or-limit-requires Inv-loop μ-loop
+or-limit-requires c κs = search needs
+
+or-limit-requires-2 : tie.Need-or-limit-requires-2 Inv-loop μ-loop
+or-limit-requires-2 c κs = search needs
+
+returns-2 : tie.Need-returns-2 Inv-loop μ-loop
+returns-2 c = rw (c .before .or-limit .ensures, c .or-limit2 .ensures) (heading-over (c .before .before .before .before .before .before .loop .inv) (c .before .before .before .before .read-line .ensures) (c .before .before .enum-told .given .1))
+
+enum-known-found : tie.Need-enum-known-found Inv-loop μ-loop
+enum-known-found c = search needs
+
+returns-3 : tie.Need-returns-3 Inv-loop μ-loop
+returns-3 c = heading-stop (c .before .before .before .before .before .loop .inv) (c .before .before .before .read-line .ensures) (c .before .found .given .1)
+
+enum-known-found-2 : tie.Need-enum-known-found-2 Inv-loop μ-loop
+enum-known-found-2 c = search needs
+
+add-at : tie.Need-add-at Inv-loop μ-loop
+add-at c = omega (arith, heading-moves (c .before .before .before .before .before .loop .inv) (c .before .before .before .read-line .ensures) (c .before .found2 .given .1) .1)
+
+loop-less : tie.Need-loop-less Inv-loop μ-loop
+loop-less c = omega (arith, heading-moves (c .before .before .before .before .before .loop .inv) (c .before .before .before .read-line .ensures) (c .before .found2 .given .1))
+
+loop-again : tie.Need-loop-again Inv-loop μ-loop
+loop-again c = heading-more (c .before .before .before .before .before .loop .inv) (c .before .before .before .read-line .ensures) (c .before .found2 .given .1)
+
+pub read-spec : {M : Type 1} → statement M
+read-spec =
+    tie.close
+    (tie.spec
+    Inv-loop
+    μ-loop
+    returns
+    loop-holds
+    sub-read-line
+    part-read-line-start
+    part-read-line-end
+    read-line-requires
+    enum-told
+    or-limit-requires
+    or-limit-requires-2
+    returns-2
+    enum-known-found
+    returns-3
+    enum-known-found-2
+    add-at
+    loop-less
+    loop-again)

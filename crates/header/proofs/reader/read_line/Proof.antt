@@ -1,0 +1,81 @@
+-- `header::reader::read_line` meets its contract.
+use Rattle.header.proofs.LineEnds.{line-in}
+use Rattle.header.proofs.Lines.{step-over, step-cut, step-endless, step-bad, step-good}
+use native.Mathlib.Omega.{arith}
+use mathlib.Core.Path.{sym, _∙_}
+use borrow.Author.Needs.{needs}
+use Rattle.header.proofs.reader.read_line.Statement.{statement}
+use Rattle.header.proofs.reader.read_line.Tie as tie
+
+is-line-requires : tie.Need-is-line-requires
+is-line-requires c κs = search needs
+
+line-end-requires : tie.Need-line-end-requires
+line-end-requires c κs = search needs
+
+enum-told : tie.Need-enum-told
+enum-told c = search needs
+
+enum-told-2 : tie.Need-enum-told-2
+enum-told-2 c = search needs
+
+enum-known-line : tie.Need-enum-known-line
+enum-known-line c = search needs
+
+sub-judge : tie.Need-sub-judge
+sub-judge c = line-in (c .before .before .before .before .before .before .before .args .bytes .now) (sym (c .before .before .before .before .before .is-line .ensures) ∙ c .before .before .before .before .if1 .taken) (c .before .before .before .line-end .ensures) (c .before .line .given .1) .0
+
+part-judge-start : tie.Need-part-judge-start
+part-judge-start c = omega (arith, line-in (c .before .before .before .before .before .before .before .args .bytes .now) (sym (c .before .before .before .before .before .is-line .ensures) ∙ c .before .before .before .before .if1 .taken) (c .before .before .before .line-end .ensures) (c .before .line .given .1))
+
+part-judge-end : tie.Need-part-judge-end
+part-judge-end c = omega (arith, line-in (c .before .before .before .before .before .before .before .args .bytes .now) (sym (c .before .before .before .before .before .is-line .ensures) ∙ c .before .before .before .before .if1 .taken) (c .before .before .before .line-end .ensures) (c .before .line .given .1))
+
+judge-requires : tie.Need-judge-requires
+judge-requires c κs = search needs
+
+enum-told-3 : tie.Need-enum-told-3
+enum-told-3 c = search needs
+
+enum-known-judged : tie.Need-enum-known-judged
+enum-known-judged c = search needs
+
+add-t19 : tie.Need-add-t19
+add-t19 c = omega (arith, line-in (c .before .before .before .before .before .before .before .before .before .before .before .before .args .bytes .now) (sym (c .before .before .before .before .before .before .before .before .before .before .is-line .ensures) ∙ c .before .before .before .before .before .before .before .before .before .if1 .taken) (c .before .before .before .before .before .before .before .before .line-end .ensures) (c .before .before .before .before .before .before .line .given .1) .1)
+
+returns : tie.Need-returns
+returns c = step-cut _ _ _ (sym (c .before .before .before .before .is-line .ensures) ∙ c .before .before .before .if1 .taken) (c .before .before .line-end .ensures) (c .enum-told .given .1)
+
+returns-2 : tie.Need-returns-2
+returns-2 c = step-endless _ _ _ (sym (c .before .before .before .before .is-line .ensures) ∙ c .before .before .before .if1 .taken) (c .before .before .line-end .ensures) (c .enum-told2 .given .1)
+
+returns-3 : tie.Need-returns-3
+returns-3 c = step-bad _ _ _ (sym (c .before .before .before .before .before .before .before .before .before .is-line .ensures) ∙ c .before .before .before .before .before .before .before .before .if1 .taken) (c .before .before .before .before .before .before .before .line-end .ensures) (c .before .before .before .before .before .line .given .1) (c .before .before .judge .ensures) (c .enum-told3 .given .1)
+
+returns-4 : tie.Need-returns-4
+returns-4 c = step-good _ _ _ (sym (c .before .before .before .before .before .before .before .before .before .before .is-line .ensures) ∙ c .before .before .before .before .before .before .before .before .before .if1 .taken) (c .before .before .before .before .before .before .before .before .line-end .ensures) (c .before .before .before .before .before .before .line .given .1) (c .before .before .before .judge .ensures) (c .before .judged .given .1)
+
+returns-5 : tie.Need-returns-5
+returns-5 c = step-over _ _ _ (sym (c .before .is-line .ensures) ∙ c .if1 .left)
+
+pub read-line-spec : {M : Type 1} → statement M
+read-line-spec =
+    tie.close
+    (tie.spec
+    is-line-requires
+    line-end-requires
+    enum-told
+    enum-told-2
+    enum-known-line
+    sub-judge
+    part-judge-start
+    part-judge-end
+    judge-requires
+    enum-told-3
+    enum-known-judged
+    add-t19
+    returns
+    returns-2
+    returns-3
+    returns-4
+    returns-5)

@@ -1,0 +1,48 @@
+-- `header::value::spaced` meets its contract.
+use Rattle.header.proofs.Digits.{spaced-none}
+use Rattle.header.specs.Sides.{numberOf, spaced}
+use Rattle.rows.proofs.Lists.{part-rest}
+use borrow.Author.Tests.{eq-eqb, ne-eqb}
+use mathlib.Core.Path.{_∙_, ap}
+use borrow.Author.Needs.{needs}
+use Rattle.header.proofs.value.spaced.Statement.{statement}
+use Rattle.header.proofs.value.spaced.Tie as tie
+
+returns : tie.Need-returns
+returns c = spaced-none _ (c .if1 .taken)
+
+shared-slice-read-if2 : tie.Need-shared-slice-read-if2
+shared-slice-read-if2 c = search needs
+
+sub-number-of : tie.Need-sub-number-of
+sub-number-of c = search needs
+
+part-number-of-start : tie.Need-part-number-of-start
+part-number-of-start c = search needs
+
+part-number-of-end : tie.Need-part-number-of-end
+part-number-of-end c = search needs
+
+number-of-requires : tie.Need-number-of-requires
+number-of-requires c κs = search needs
+
+returns-2 : tie.Need-returns-2
+unfolding spaced
+returns-2 c = simp (eq-eqb _ _ (c .before .before .if2 .taken)) (c .number-of .ensures ∙ ap numberOf (part-rest 1 (c .before .before .before .before .before .before .args .text .now)))
+
+returns-3 : tie.Need-returns-3
+unfolding spaced
+returns-3 c = simp (ne-eqb _ _ (c .if2 .left))
+
+pub spaced-spec : {M : Type 1} → statement M
+spaced-spec =
+    tie.close
+    (tie.spec
+    returns
+    shared-slice-read-if2
+    sub-number-of
+    part-number-of-start
+    part-number-of-end
+    number-of-requires
+    returns-2
+    returns-3)

@@ -1,0 +1,52 @@
+-- `header::value::value_of` meets its contract.
+use Rattle.header.proofs.Digits.{value-none}
+use Rattle.header.specs.Sides.{spaced, valueOf}
+use Rattle.rows.proofs.Lists.{part-rest}
+use borrow.Author.Tests.{eq-eqb, ne-eqb}
+use mathlib.Core.Path.{_∙_, ap}
+use borrow.Author.Needs.{needs}
+use Rattle.header.proofs.value.value_of.Statement.{statement}
+use Rattle.header.proofs.value.value_of.Tie as tie
+
+returns : tie.Need-returns
+returns c = value-none _ (c .if1 .taken)
+
+shared-slice-read-if2 : tie.Need-shared-slice-read-if2
+shared-slice-read-if2 c = search needs
+
+sub-spaced : tie.Need-sub-spaced
+sub-spaced c = search needs
+
+part-spaced-start : tie.Need-part-spaced-start
+part-spaced-start c = search needs
+
+part-spaced-end : tie.Need-part-spaced-end
+part-spaced-end c = search needs
+
+spaced-requires : tie.Need-spaced-requires
+spaced-requires c κs = search needs
+
+returns-2 : tie.Need-returns-2
+unfolding valueOf
+returns-2 c = simp (eq-eqb _ _ (c .before .before .if2 .taken)) (c .spaced .ensures ∙ ap spaced (part-rest 1 (c .before .before .before .before .before .before .args .text .now)))
+
+spaced-requires-2 : tie.Need-spaced-requires-2
+spaced-requires-2 c κs = search needs
+
+returns-3 : tie.Need-returns-3
+unfolding valueOf
+returns-3 c = simp (ne-eqb _ _ (c .before .if2 .left)) (c .spaced2 .ensures)
+
+pub value-of-spec : {M : Type 1} → statement M
+value-of-spec =
+    tie.close
+    (tie.spec
+    returns
+    shared-slice-read-if2
+    sub-spaced
+    part-spaced-start
+    part-spaced-end
+    spaced-requires
+    returns-2
+    spaced-requires-2
+    returns-3)

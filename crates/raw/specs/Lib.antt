@@ -1,0 +1,3 @@
+-- Definitions that the contracts cite, and the laws.
+pub mod Promises
+pub mod Reader

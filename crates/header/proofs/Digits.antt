@@ -7,7 +7,8 @@ use mathlib.Core.Bool.{Bool, true, false, cond, _&&_, and-false}
 use mathlib.Core.List.{List, [], _∷_}
 use lib.ListN.{length, drop, getD, drop-of-length-le}
 use lib.Dec.{leb, eqb}
-use borrow.Author.Tests.{le-leb, lt-leb, ne-eqb}
+use borrow.Author.Tests.{le-leb, lt-leb, ne-eqb, leb-true}
+use Rattle.rows.proofs.GoodRows.{and-first, and-second}
 use Rattle.header.specs.declared.value.Value.{Value}
 use Rattle.header.specs.declared.value.Value.the-variants.{Number, Malformed}
 use Rattle.header.specs.Sides.{isDigit, areDigits, decimal, numberOf, spaced, valueOf}
@@ -39,6 +40,9 @@ not-number : (d : List ℕ) → areDigits d ≡ false → numberOf d ≡ Malform
 unfolding numberOf
 not-number d h = rw h (ap (λ (b : Bool). cond b (Number (decimal 0 d)) Malformed) (and-false (leb 1 (length d) && leb (length d) 5)))
 
+digit-in : (c : ℕ) → isDigit c ≡ true → (48 ≤ c) × (c ≤ 57)
+digit-in c q = (leb-true 48 c (and-first (leb 48 c) (leb c 57) q), leb-true c 57 (and-second (leb 48 c) (leb c 57) q))
+
 -- i digits make the number n
 pub record Counted (d : List ℕ) (n i : ℕ) : Type 0 where
   pub digits : areDigits d ≡ areDigits (drop i d)
@@ -58,21 +62,22 @@ module _ {d : List ℕ} {n i : ℕ} (h : Counted d n i) where
   unfolding areDigits
   here p = h .digits ∙ ap areDigits (drop-at d i p)
 
-  pub counted-below : i < length d → getD d i 0 < 48 → Malformed ≡ numberOf d
-  counted-below p q = sym (not-number d (here p ∙ simp (lt-leb _ _ q)))
+  -- a byte that is no digit
+  pub counted-other : i < length d → isDigit (getD d i 0) ≡ false → Malformed ≡ numberOf d
+  counted-other p q = sym (not-number d (here p ∙ ap (λ (b : Bool). b && areDigits (drop (i + 1) d)) q))
 
-  module _ (p : i < length d) (q : 48 ≤ getD d i 0) where
-    pub counted-above : 57 < getD d i 0 → Malformed ≡ numberOf d
-    counted-above r = sym (not-number d (here p ∙ simp (le-leb _ _ q, lt-leb _ _ r)))
+  -- a digit
+  pub counted-digit : isDigit (getD d i 0) ≡ true → (48 ≤ getD d i 0) × (getD d i 0 ≤ 57)
+  counted-digit q = digit-in (getD d i 0) q
 
-    pub counted-next : getD d i 0 ≤ 57 → Counted d (n * 10 + (getD d i 0 - 48)) (i + 1)
-    unfolding decimal tens
-    counted-next r =
-        record {
-          digits = here p ∙ simp (le-leb _ _ q, le-leb _ _ r);
-          same = h .same ∙ ap (decimal n) (drop-at d i p);
-          small = rw (add-one i) (omega (arith, h .small));
-        }
+  pub counted-next : i < length d → isDigit (getD d i 0) ≡ true → Counted d (n * 10 + (getD d i 0 - 48)) (i + 1)
+  unfolding decimal tens
+  counted-next p q =
+      record {
+        digits = here p ∙ ap (λ (b : Bool). b && areDigits (drop (i + 1) d)) q;
+        same = h .same ∙ ap (decimal n) (drop-at d i p);
+        small = rw (add-one i) (omega (arith, h .small, digit-in (getD d i 0) q));
+      }
 
   pub counted-all : 1 ≤ length d → length d ≤ 5 → length d ≤ i → Number n ≡ numberOf d
   unfolding numberOf areDigits decimal

@@ -12,6 +12,7 @@
 //
 // specs/Lines.antt says where a line ends, specs/Sides.antt what it says of the picture, specs/Header.antt what any bytes give.
 mod line;
+mod number;
 mod reader;
 mod side;
 mod value;

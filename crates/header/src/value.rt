@@ -1,6 +1,7 @@
 // The value of a width or a height.
 ghost use mathlib.Core.Path.{_≡_};
 ghost use Rattle.header.specs.Sides.{numberOf, spaced, valueOf};
+use crate::number::number_of_few;
 
 // A whole number, or something else.
 pub(crate) enum Value {
@@ -8,7 +9,7 @@ pub(crate) enum Value {
     Malformed,
 }
 
-// The number of one to five digits. A comma or a point is no digit.
+// The number of one to five digits.
 fn number_of(digits: &[u8]) -> Value
     ensures { λ r. ⌜ r ≡ numberOf (now (digits .entry)) ⌝ }
 {
@@ -18,20 +19,7 @@ fn number_of(digits: &[u8]) -> Value
     if 5 < digits.len() {
         return Value::Malformed;
     }
-    let mut n: u32 = 0;
-    let mut i: usize = 0;
-    while i < digits.len() {
-        let c = digits[i];
-        if c < 48 {
-            return Value::Malformed;
-        }
-        if 57 < c {
-            return Value::Malformed;
-        }
-        n = n * 10 + (c - 48) as u32;
-        i += 1;
-    }
-    Value::Number(n)
+    number_of_few(digits)
 }
 
 // One space, and a number.

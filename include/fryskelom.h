@@ -22,6 +22,13 @@ typedef struct {
     uint64_t refusal, count;
 } fry_writing;
 
+/* A text header's answer. refusal 0: place is where the data begin, width and height are the picture's. Else place is the first
+ * byte of the line at fault, width and height 0. */
+typedef struct {
+    uint64_t refusal, place;
+    uint32_t width, height;
+} fry_header;
+
 /* The event of a row: its kind, its time in microseconds, the row's own seven numbers, and for an IMU the readings
  * (acceleration X, Y, Z in g, rotation X, Y, Z in degrees a second, temperature), +0 where there are none.
  * Refused: all else is 0. A NaN's payload stands in data alone. */
@@ -46,6 +53,26 @@ fry_reading fry_read_evt2(const uint8_t *bytes, size_t bytes_len, uint32_t width
 
 /* Reads the EVT3 words of a recording. Refused at a word, in this order: 4, 3, 7, 5, 6, 2. */
 fry_reading fry_read_evt3(const uint8_t *bytes, size_t bytes_len, uint32_t width, uint32_t height, uint32_t *rows, size_t rows_len);
+
+/* Reads the text header of a RAW or DAT file: every line from the first byte on that starts with a percent sign and a space, its
+ * newline among its first 256 bytes. After the keyword width or height, in any letter case, stand a colon or none, one space, one to
+ * five digits and the newline; the number is 1 to limit. A side that no line says is limit. Lines of other keywords hold anything.
+ * Refused: 1, with place 0. Then at the first line at fault: 4 where the input ends before its newline and before its 256th byte, else
+ * 9, for no newline so far, a width or height that is malformed, 0 or over limit, and a width or height said before. */
+fry_header fry_read_header(const uint8_t *bytes, size_t bytes_len, uint32_t limit);
+
+/* Readers of files. The picture is what the text header says, places count from the file's first byte, and rows are as for the
+ * readers of words. Refused first, with no rows: what fry_read_header refuses. */
+
+/* Reads a RAW file of EVT2 words, each side of the picture at most 2,048. After the header all is as in fry_read_evt2. */
+fry_reading fry_read_raw_evt2(const uint8_t *bytes, size_t bytes_len, uint32_t *rows, size_t rows_len);
+
+/* Reads a RAW file of EVT3 words, each side of the picture at most 2,048. After the header all is as in fry_read_evt3. */
+fry_reading fry_read_raw_evt3(const uint8_t *bytes, size_t bytes_len, uint32_t *rows, size_t rows_len);
+
+/* Reads a DAT file, each side of the picture at most 16,384. After the header stand the bytes 0 and 8, refused where the first of
+ * them is or should be: 4 where fewer than two are left, else 9. Refused at an event, in this order: 4, 5, 6, 2. */
+fry_reading fry_read_dat(const uint8_t *bytes, size_t bytes_len, uint32_t *rows, size_t rows_len);
 
 /* Writes the EVT2 words of rows, four bytes each, from out[0] on, and answers how many they are: seven a row at most. What
  * follows them is not touched. rows_len counts numbers, ten a row. Kinds 1, 2 and 3 are written, x and y below 2,048, and no

@@ -85,6 +85,17 @@ pub struct Event {
     pub readings: [f32; 7],
 }
 
+/// What the text header of a RAW or DAT file says.
+#[derive(Clone, Copy, Debug, PartialEq, Eq)]
+pub struct Header {
+    /// The byte where the data begin.
+    pub data: usize,
+    /// The picture's width in pixels; the limit where no line says it.
+    pub width: u32,
+    /// The picture's height likewise.
+    pub height: u32,
+}
+
 /// The event of a row of ten numbers: refused 13 for any other length, 12 for a row that is not good.
 pub fn event_of(row: &[u32]) -> Result<Event, Refusal> {
     // SAFETY: the pointer and the length are those of a slice, which is not null.
@@ -109,6 +120,34 @@ pub fn read_evt2(bytes: &[u8], width: u32, height: u32, rows: &mut [u32]) -> Res
 /// Reads EVT3 words; all else is as in [`read_evt2`].
 pub fn read_evt3(bytes: &[u8], width: u32, height: u32, rows: &mut [u32]) -> Result<usize, Fault> {
     reading(evt3_numbers(bytes, width, height, rows))
+}
+
+/// Reads the text header of a file whose format allows widths and heights from 1 to `limit`. A fault has no rows, and its place is the
+/// first byte of the line at fault.
+pub fn read_header(bytes: &[u8], limit: u32) -> Result<Header, Fault> {
+    let (refusal, place, width, height) = header_numbers(bytes, limit);
+    let place = place as usize;
+    match refusal {
+        0 => Ok(Header { data: place, width, height }),
+        _ => Err(Fault { refusal: Refusal(refusal), rows: 0, place }),
+    }
+}
+
+/// Reads a RAW file of EVT2 words. Its header says how large the picture is, and a side that it leaves out has 2,048 pixels. Places count
+/// from the file's first byte; all else is as in [`read_evt2`].
+pub fn read_raw_evt2(bytes: &[u8], rows: &mut [u32]) -> Result<usize, Fault> {
+    reading(raw_evt2_numbers(bytes, rows))
+}
+
+/// Reads a RAW file of EVT3 words; all else is as in [`read_raw_evt2`].
+pub fn read_raw_evt3(bytes: &[u8], rows: &mut [u32]) -> Result<usize, Fault> {
+    reading(raw_evt3_numbers(bytes, rows))
+}
+
+/// Reads a DAT file. A side of its picture has at most 16,384 pixels, and so many where the header leaves it out; all else is as in
+/// [`read_raw_evt2`].
+pub fn read_dat(bytes: &[u8], rows: &mut [u32]) -> Result<usize, Fault> {
+    reading(dat_numbers(bytes, rows))
 }
 
 /// Writes a list of rows, ten numbers each, as EVT2 words of four bytes from the buffer's first byte on, and answers how many words
@@ -155,6 +194,38 @@ pub fn evt3_numbers(bytes: &[u8], width: u32, height: u32, rows: &mut [u32]) -> 
 fn reading_numbers(reader: sys::WordReader, bytes: &[u8], width: u32, height: u32, rows: &mut [u32]) -> (u64, u64, u64) {
     // SAFETY: pointers and lengths are those of two slices, which are not null and do not overlap.
     let reading = unsafe { reader(bytes.as_ptr(), bytes.len(), width, height, rows.as_mut_ptr(), rows.len()) };
+    (reading.refusal, reading.rows, reading.place)
+}
+
+/// All that `fry_read_header` answers, refused or not: the refusal, the place, the width and the height.
+#[doc(hidden)]
+pub fn header_numbers(bytes: &[u8], limit: u32) -> (u64, u64, u32, u32) {
+    // SAFETY: as in `event_of`.
+    let header = unsafe { sys::fry_read_header(bytes.as_ptr(), bytes.len(), limit) };
+    (header.refusal, header.place, header.width, header.height)
+}
+
+/// All that `fry_read_raw_evt2` answers, as `evt2_numbers` has it.
+#[doc(hidden)]
+pub fn raw_evt2_numbers(bytes: &[u8], rows: &mut [u32]) -> (u64, u64, u64) {
+    file_numbers(sys::fry_read_raw_evt2, bytes, rows)
+}
+
+/// All that `fry_read_raw_evt3` answers, as `evt2_numbers` has it.
+#[doc(hidden)]
+pub fn raw_evt3_numbers(bytes: &[u8], rows: &mut [u32]) -> (u64, u64, u64) {
+    file_numbers(sys::fry_read_raw_evt3, bytes, rows)
+}
+
+/// All that `fry_read_dat` answers, as `evt2_numbers` has it.
+#[doc(hidden)]
+pub fn dat_numbers(bytes: &[u8], rows: &mut [u32]) -> (u64, u64, u64) {
+    file_numbers(sys::fry_read_dat, bytes, rows)
+}
+
+fn file_numbers(reader: sys::FileReader, bytes: &[u8], rows: &mut [u32]) -> (u64, u64, u64) {
+    // SAFETY: as in `reading_numbers`.
+    let reading = unsafe { reader(bytes.as_ptr(), bytes.len(), rows.as_mut_ptr(), rows.len()) };
     (reading.refusal, reading.rows, reading.place)
 }
 

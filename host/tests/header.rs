@@ -20,15 +20,36 @@ static void show(const uint32_t *row, size_t len) {
     printf("\n");
 }
 
+static void show_rows(fry_reading r, const uint32_t *rows) {
+    printf("%" PRIu64 " %" PRIu64 " %" PRIu64, r.refusal, r.rows, r.place);
+    for (int i = 0; i < 20; i++) printf(" %" PRIu32, rows[i]);
+    printf("\n");
+}
+
 typedef fry_reading reader(const uint8_t *, size_t, uint32_t, uint32_t, uint32_t *, size_t);
 
 static void show_reading(reader *read, const uint8_t *bytes, size_t len) {
     uint32_t rows[20];
     for (int i = 0; i < 20; i++) rows[i] = 7;
-    fry_reading r = read(bytes, len, 1280, 720, rows, 20);
-    printf("%" PRIu64 " %" PRIu64 " %" PRIu64, r.refusal, r.rows, r.place);
-    for (int i = 0; i < 20; i++) printf(" %" PRIu32, rows[i]);
-    printf("\n");
+    show_rows(read(bytes, len, 1280, 720, rows, 20), rows);
+}
+
+static const char text[] = "% width: 640\n% Height 480\n";
+
+static void show_header(size_t len, uint32_t limit) {
+    fry_header h = fry_read_header((const uint8_t *)text, len, limit);
+    printf("%" PRIu64 " %" PRIu64 " %" PRIu32 " %" PRIu32 "\n", h.refusal, h.place, h.width, h.height);
+}
+
+typedef fry_reading file_reader(const uint8_t *, size_t, uint32_t *, size_t);
+
+static void show_file(file_reader *read, const uint8_t *data, size_t len) {
+    uint8_t bytes[64];
+    uint32_t rows[20];
+    for (int i = 0; i < 20; i++) rows[i] = 7;
+    memcpy(bytes, text, 26);
+    memcpy(bytes + 26, data, len);
+    show_rows(read(bytes, 26 + len, rows, 20), rows);
 }
 
 typedef fry_writing writer(const uint32_t *, size_t, uint8_t *, size_t);
@@ -59,7 +80,18 @@ int main(void) {
     show_writing(fry_write_evt2, list, 20);
     show_writing(fry_write_evt3, list, 10);
     show_writing(fry_write_evt3, list, 20);
-    return sizeof(fry_reading) == 24 && sizeof(fry_writing) == 16 ? 0 : 1;
+    show_header(26, 2048);
+    show_header(13, 2048);
+    show_header(20, 2048);
+    show_header(26, 479);
+    show_file(fry_read_raw_evt2, evt2, 8);
+    show_file(fry_read_raw_evt2, evt2, 12);
+    show_file(fry_read_raw_evt3, evt3, 8);
+    show_file(fry_read_raw_evt3, evt3, 10);
+    const uint8_t dat[18] = {0x00, 0x08, 0x64, 0x00, 0x00, 0x00, 0x05, 0xc0, 0x00, 0x10, 0x63, 0x00, 0x00, 0x00, 0x05, 0xc0, 0x00, 0x10};
+    show_file(fry_read_dat, dat, 10);
+    show_file(fry_read_dat, dat, 18);
+    return sizeof(fry_reading) == 24 && sizeof(fry_writing) == 16 && sizeof(fry_header) == 24 ? 0 : 1;
 }
 "#;
 
@@ -75,6 +107,16 @@ const EXPECTED: &str = "\
 12 1 07 07 07 07 07 07 07 07 07 07 07 07
 0 4 00 80 42 60 03 00 05 28 07 07 07 07
 12 1 07 07 07 07 07 07 07 07 07 07 07 07
+0 26 640 480
+0 13 640 2048
+4 13 0 0
+9 0 0 0
+0 1 0 1 66 0 5 3 1 0 0 0 0 7 7 7 7 7 7 7 7 7 7
+3 1 34 1 66 0 5 3 1 0 0 0 0 7 7 7 7 7 7 7 7 7 7
+0 1 0 1 4098 0 5 3 1 0 0 0 0 7 7 7 7 7 7 7 7 7 7
+3 1 34 1 4098 0 5 3 1 0 0 0 0 7 7 7 7 7 7 7 7 7 7
+0 1 0 1 100 0 5 3 1 0 0 0 0 7 7 7 7 7 7 7 7 7 7
+5 1 36 1 100 0 5 3 1 0 0 0 0 7 7 7 7 7 7 7 7 7 7
 ";
 
 #[test]

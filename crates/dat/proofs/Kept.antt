@@ -1,7 +1,4 @@
 -- Each law of specs/Promises.antt, proved.
-use Prim.Native.Nat.{_+_, _≤_}
-use native.Mathlib.Omega.{arith}
-use mathlib.Core.Path.{refl}
 use lib.ListN.{length}
 use lib.Dec.{lit<}
 use Rattle.words.specs.Picture.{pictureOf}
@@ -9,7 +6,6 @@ use Rattle.header.specs.Header.{headerOf}
 use Rattle.header.proofs.Files.{after-good, after-within}
 use Rattle.header.proofs.Kept.{header-within}
 use Rattle.dat.specs.Promises.{ReadGood, ReadWithin}
-use Rattle.dat.specs.Reader.{afterTypeAndSize}
 use Rattle.dat.proofs.GoodRead.{data-good}
 use Rattle.dat.proofs.Places.{data-within}
 

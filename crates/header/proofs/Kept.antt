@@ -1,6 +1,5 @@
 -- Each law of specs/Promises.antt, proved.
 use mathlib.Core.Path.{refl}
-use Prim.Native.Nat.{ℕ}
 use native.Mathlib.Omega.{arith}
 use mathlib.Core.Bool.{Bool, true, false, cond}
 use lib.ListN.{length}

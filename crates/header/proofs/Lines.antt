@@ -6,7 +6,6 @@ use mathlib.Core.Bool.{Bool, true, false, cond}
 use mathlib.Core.List.{List, [], _∷_}
 use lib.ListN.{length, take, drop, length-drop}
 use lib.Seq.{drop-drop}
-use lib.Dec.{ltb}
 use borrow.Author.Tests.{le-ltb, lt-ltb}
 use Rattle.rows.specs.declared.fault.Fault.{Fault}
 use Rattle.rows.specs.declared.fault.Fault.the-variants.{TooLong, BadHeader}
@@ -14,8 +13,7 @@ use Rattle.rows.specs.declared.fault.Fault.the-variants as refusal
 use Rattle.rows.proofs.Lists.{part-rest}
 use Rattle.header.specs.declared.line.Line.{Line}
 use Rattle.header.specs.declared.line.Line.the-variants.{Ends, Cut, Endless}
-use Rattle.header.specs.declared.reader.Header.{Header}
-use Rattle.header.specs.declared.reader.Header.the-variants.{Data, Refused}
+use Rattle.header.specs.declared.reader.Header.the-variants.{Refused}
 use Rattle.header.specs.declared.reader.Step.{Step}
 use Rattle.header.specs.declared.reader.Step.the-variants.{Over, Stop, More}
 use Rattle.header.specs.declared.side.Judged.{Judged}
@@ -89,7 +87,7 @@ line-step-in limit b s (Ends i) h = judged-in (length b) i (h .1) (judgedOf limi
 line-step-in limit b s Cut h = tt
 line-step-in limit b s Endless h = tt
 
-step-in : (limit : ℕ) (b : List ℕ) (s : Sides) → StepIn (length b) (stepOf limit b s)
+pub step-in : (limit : ℕ) (b : List ℕ) (s : Sides) → StepIn (length b) (stepOf limit b s)
 unfolding stepOf
 step-in limit b s = go (isLine b)
   where

@@ -10,7 +10,6 @@ use borrow.Author.Tests.{leb-true, eqb-false}
 use Rattle.rows.proofs.GoodRows.{and-second}
 use Rattle.header.specs.declared.line.Line.{Line}
 use Rattle.header.specs.declared.line.Line.the-variants.{Ends, Cut, Endless}
-use Rattle.header.specs.declared.reader.Header.{Header}
 use Rattle.header.specs.declared.reader.Step.{Step}
 use Rattle.header.specs.declared.reader.Step.the-variants.{Over, Stop, More}
 use Rattle.header.specs.declared.side.Judged.{Judged}
@@ -24,7 +23,7 @@ use Rattle.header.specs.Lines.{isLine, lineEnd}
 use Rattle.header.specs.Sides.{keywordLength, sideOf, valueOf, mayBe, withWidth, withHeight, judgedAs, judgedOf, orLimit}
 use Rattle.header.specs.Header.{judgedStep, lineStep, stepOf, dataAt, stepThen, headerFrom}
 use Rattle.header.specs.Promises.{Within}
-use Rattle.header.proofs.LineEnds.{EndIn, line-ends}
+use Rattle.header.proofs.Lines.{StepIn, step-in}
 
 module _ (limit : ℕ) where
   -- what is known of the sides is within the limit
@@ -58,27 +57,27 @@ module _ (limit : ℕ) where
       go Height = height-small (valueOf (drop (keywordLength text) text)) s h
       go Other = h
 
-  -- a good line lies in the bytes, and keeps the sides within the limit
-  abbrev StepSmall : ℕ → Step → Type 0
-  StepSmall most Over = Unit {0}
-  StepSmall most (Stop f) = Unit {0}
-  StepSmall most (More long s) = (long ≤ most) × Small s
+  -- a good line keeps the sides within the limit
+  abbrev StepSmall : Step → Type 0
+  StepSmall Over = Unit {0}
+  StepSmall (Stop f) = Unit {0}
+  StepSmall (More long s) = Small s
 
-  step-judged : (most i : ℕ) → i < most → (j : Judged) → JudgedSmall j → StepSmall most (judgedStep i j)
-  step-judged most i h (Good s) k = (omega arith, k)
-  step-judged most i h Bad k = tt
+  step-judged : (i : ℕ) (j : Judged) → JudgedSmall j → StepSmall (judgedStep i j)
+  step-judged i (Good s) h = h
+  step-judged i Bad h = tt
 
-  line-small : (b : List ℕ) (s : Sides) → Small s → (l : Line) → EndIn 0 (length b) l → StepSmall (length b) (lineStep l limit b s)
-  line-small b s k (Ends i) h = step-judged (length b) i (h .1) (judgedOf limit (take (i - 2) (drop 2 b)) s) (judged-small (take (i - 2) (drop 2 b)) s k)
-  line-small b s k Cut h = tt
-  line-small b s k Endless h = tt
+  line-small : (b : List ℕ) (s : Sides) → Small s → (l : Line) → StepSmall (lineStep l limit b s)
+  line-small b s h (Ends i) = step-judged i (judgedOf limit (take (i - 2) (drop 2 b)) s) (judged-small (take (i - 2) (drop 2 b)) s h)
+  line-small b s h Cut = tt
+  line-small b s h Endless = tt
 
-  step-small : (b : List ℕ) (s : Sides) → Small s → StepSmall (length b) (stepOf limit b s)
+  step-small : (b : List ℕ) (s : Sides) → Small s → StepSmall (stepOf limit b s)
   unfolding stepOf
-  step-small b s k = go (isLine b)
+  step-small b s h = go (isLine b)
     where
-      go : (t : Bool) → StepSmall (length b) (cond t (lineStep (lineEnd 256 b 0) limit b s) Over)
-      go true = line-small b s k (lineEnd 256 b 0) (line-ends b)
+      go : (t : Bool) → StepSmall (cond t (lineStep (lineEnd 256 b 0) limit b s) Over)
+      go true = line-small b s h (lineEnd 256 b 0)
       go false = tt
 
   side-within : (some : 0 < limit) (n : ℕ) → n ≤ limit → (1 ≤ orLimit limit n) × (orLimit limit n ≤ limit)
@@ -100,11 +99,11 @@ module _ (limit : ℕ) where
     unfolding headerFrom
     lines-within zero b place s k h = over-within place s k (omega arith)
     lines-within (suc most) b place s k h =
-        go (stepOf limit b s) (step-small b s k) (λ long s′ p q. lines-within most (drop long b) (place + long) s′ q (omega (arith, length-drop long b)))
+        go (stepOf limit b s) (step-in limit b s) (step-small b s k) (λ long s′ p q. lines-within most (drop long b) (place + long) s′ q (omega (arith, length-drop long b)))
       where
-        go : (r : Step) → StepSmall (length b) r
+        go : (r : Step) → StepIn (length b) r → StepSmall r
             → ((long : ℕ) (s′ : Sides) → long ≤ length b → Small s′ → Within limit bytes (headerFrom most limit (drop long b) (place + long) s′))
             → Within limit bytes (stepThen r limit place s (λ long s′. headerFrom most limit (drop long b) (place + long) s′))
-        go Over m ih = over-within place s k (omega arith)
-        go (Stop f) m ih = omega arith
-        go (More long s′) m ih = ih long s′ (m .0) (m .1)
+        go Over i m ih = over-within place s k (omega arith)
+        go (Stop f) i m ih = omega arith
+        go (More long s′) i m ih = ih long s′ (i .1) m

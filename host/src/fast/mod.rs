@@ -2,8 +2,10 @@
 //! the library.
 use crate::{Fault, Refusal, RowFault};
 
+pub mod dat;
 pub mod evt2;
 pub mod evt3;
+pub mod header;
 
 const TOO_LONG: Refusal = Refusal(1);
 const NO_ROOM: Refusal = Refusal(2);
@@ -11,6 +13,7 @@ const RESERVED: Refusal = Refusal(3);
 const CUT: Refusal = Refusal(4);
 const TIME: Refusal = Refusal(5);
 const OUTSIDE: Refusal = Refusal(6);
+const BAD_HEADER: Refusal = Refusal(9);
 const BAD_ROW: Refusal = Refusal(12);
 const NO_LIST: Refusal = Refusal(13);
 const NO_PICTURE: Refusal = Refusal(14);

@@ -1,7 +1,9 @@
 //! Inputs made up for tests and the benchmark; the same ones in every run.
 
+pub mod dat;
 pub mod evt2;
 pub mod evt3;
+pub mod header;
 
 /// Width and height in pixels.
 pub type Picture = (u32, u32);

@@ -1,7 +1,8 @@
 //! What readers and writers of words have in common: what they answer, and what they refuse whatever the words are.
 use super::rows::{first_fault, Row};
 
-const MOST_BYTES: usize = 1_073_741_824;
+/// The longest input.
+pub const MOST_BYTES: usize = 1_073_741_824;
 /// The most columns or lines of a picture.
 pub const SIDE: u32 = 2_048;
 

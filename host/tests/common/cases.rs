@@ -1,4 +1,5 @@
-//! What the named cases of all readers of words share: words with the rows that they are to give, which each reader has to give.
+//! What the named cases of all readers share: words with the rows that they are to give, which each reader has to give. Of a file a word
+//! is any stretch of bytes, and its header, not `picture`, says how large its picture is.
 use fryskelom::samples::Picture;
 use fryskelom::second::words::Reading;
 use fryskelom::{Fault, Refusal};

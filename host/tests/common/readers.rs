@@ -1,11 +1,12 @@
 //! What the tests of all readers of words share: a reader is held to the second implementation, on inputs of its format's own and on
 //! recordings that are made up, damaged, cut and short of room.
+#[path = "lent.rs"]
+mod lent;
+
 use fryskelom::samples::{Numbers, Picture};
 use fryskelom::second::words::Reading;
 use fryskelom::Fault;
-
-/// The refusal, the finished rows and the place.
-pub type Answer = (u64, u64, u64);
+pub use lent::Answer;
 
 pub type Reader = fn(&[u8], u32, u32, &mut [u32]) -> Answer;
 
@@ -69,19 +70,9 @@ impl<R: Reached> Comparer<R> {
         self.hold(bytes, picture, lent, R::second(bytes, picture.0, picture.1, lent / 10));
     }
 
-    /// Lends the middle part of a buffer in which every number is another, and compares the answer and the whole buffer afterwards.
     fn hold(&mut self, bytes: &[u8], picture: Picture, lent: usize, expected: Reading) {
-        // before and after it, as much as the rows of a vector
-        const AROUND: usize = 120;
-        let mut buffer: Vec<u32> = (1..=(lent + 2 * AROUND) as u32).map(|i| i.wrapping_mul(0x9e37_79b1)).collect();
-        let mut after = buffer.clone();
-        after[AROUND..][..10 * expected.rows.len()].copy_from_slice(expected.rows.as_flattened());
-
-        let answer = (self.reader)(bytes, picture.0, picture.1, &mut buffer[AROUND..AROUND + lent]);
         let input = || format!("picture {picture:?}, {lent} numbers lent, words {}", shown(bytes, R::SIZE));
-        assert_eq!(answer, (expected.refusal, expected.rows.len() as u64, expected.place as u64), "{}", input());
-        let changed = buffer.iter().zip(&after).position(|(is, should)| is != should);
-        assert_eq!(changed.map(|i| i as isize - AROUND as isize), None, "the first wrong number; {}", input());
+        lent::hold(|rows| (self.reader)(bytes, picture.0, picture.1, rows), lent, &expected, input);
         self.count(bytes, &expected);
     }
 

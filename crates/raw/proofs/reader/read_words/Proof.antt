@@ -3,7 +3,6 @@ use Rattle.raw.proofs.Words.{reads-evt2, reads-evt3}
 use borrow.Author.Needs.{needs}
 use Rattle.raw.proofs.reader.read_words.Statement.{statement}
 use Rattle.raw.proofs.reader.read_words.Tie as tie
-use Rattle.evt3.proofs.read.Reads as reader-read-reads′
 
 enum-told : tie.Need-enum-told
 enum-told c = search needs

@@ -1,4 +1,5 @@
 -- Lemmas, and the laws proved (Kept).
+pub mod CountWords
 pub mod GoodRead
 pub mod Kept
 pub mod Places

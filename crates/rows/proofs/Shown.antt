@@ -13,11 +13,25 @@ use Rattle.rows.specs.declared.row.Row.{Row}
 use Rattle.rows.specs.declared.row.RowAt.the-variants.{Found, Nothing}
 use Rattle.rows.specs.declared.rules.Kind.{Kind}
 use Rattle.rows.specs.declared.event.Event.{Event}
+use Rattle.rows.specs.declared.event.Event.the-variants.{ImuCounts, ImuSingles}
 use Rattle.rows.specs.declared.event.Conversion.the-variants.{Turned, Refused}
 use Rattle.rows.specs.declared.event.EventNumbers.{EventNumbers}
 use Rattle.rows.specs.Row.{timeOf, rowFrom, rowAt}
 use Rattle.rows.specs.Rules.{kindOf, goodRow}
-use Rattle.rows.specs.Event.{eventAs, eventOf, readingsOf, refusedNumbers, rowNumbers, eventNumbers}
+use Rattle.rows.specs.Readings.{accelerationOf, rotationOf, singleOf}
+use Rattle.rows.specs.Event.{countsEvent, singlesEvent, eventAs, eventOf, readingsOf, refusedNumbers, rowNumbers, eventNumbers}
+
+-- an IMU's events, of the time and the readings that the code made
+pub counts-made : (r : Row) {t : ℕ} {a b c d e f : Float} → t ≡ timeOf r → a ≡ accelerationOf (r .a) → b ≡ accelerationOf (r .b) → c ≡ accelerationOf (r .c)
+    → d ≡ rotationOf (r .d) → e ≡ rotationOf (r .e) → f ≡ rotationOf (r .f) → ImuCounts t a b c d e f ≡ countsEvent r
+unfolding countsEvent
+counts-made r t a b c d e f = rw (t, a, b, c, d, e, f)
+
+pub singles-made : (r : Row) {t : ℕ} {a b c d e f g : Float} → t ≡ timeOf r → a ≡ singleOf (r .a) → b ≡ singleOf (r .b) → c ≡ singleOf (r .c)
+    → d ≡ singleOf (r .d) → e ≡ singleOf (r .e) → f ≡ singleOf (r .f) → g ≡ singleOf (r .g)
+    → ImuSingles t a b c d e f g (record { a = r .a; b = r .b; c = r .c; d = r .d; e = r .e; f = r .f; g = r .g }) ≡ singlesEvent r
+unfolding singlesEvent
+singles-made r t a b c d e f g = rw (t, a, b, c, d, e, f, g)
 
 pub event-good : (r : Row) {k : Kind} → k ≡ kindOf (r .kind) → goodRow r ≡ true → eventAs k r ≡ eventOf r
 unfolding eventOf

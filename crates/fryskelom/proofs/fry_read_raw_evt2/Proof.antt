@@ -5,10 +5,10 @@ use Rattle.fryskelom.proofs.fry_read_raw_evt2.Statement.{statement}
 use Rattle.fryskelom.proofs.fry_read_raw_evt2.Tie as tie
 
 read-requires : tie.Need-read-requires
-read-requires c κs = search needs
+read-requires c κs = tt
 
 numbers-requires : tie.Need-numbers-requires
-numbers-requires c κs = search needs
+numbers-requires c κs = tt
 
 same-length : tie.Need-same-length
 same-length c = search needs

@@ -6,13 +6,13 @@ use Rattle.dat.proofs.reader.read.Statement.{statement}
 use Rattle.dat.proofs.reader.read.Tie as tie
 
 read-requires : tie.Need-read-requires
-read-requires c κs = search needs
+read-requires c κs = tt
 
 enum-known-header : tie.Need-enum-known-header
-enum-known-header c = search needs
+enum-known-header c = c .match .keys1
 
 enum-known-header-2 : tie.Need-enum-known-header-2
-enum-known-header-2 c = search needs
+enum-known-header-2 c = c .match .keys2
 
 read-data-requires : tie.Need-read-data-requires
 read-data-requires c κs = data-within 16384 (lit< tt) (c .before .before .before .before .before .before .before .args .bytes .now) (c .before .before .before .before .read .ensures) (c .before .before .header2 .given .1)

@@ -7,22 +7,22 @@ use Rattle.dat.proofs.reader.read_data.Statement.{statement}
 use Rattle.dat.proofs.reader.read_data.Tie as tie
 
 sub-if1 : tie.Need-sub-if1
-sub-if1 c = search needs
+sub-if1 c = omega arith
 
 returns : tie.Need-returns
 returns c = reads-cut _ _ _ (omega arith)
 
 shared-slice-read-if2 : tie.Need-shared-slice-read-if2
-shared-slice-read-if2 c = search needs
+shared-slice-read-if2 c = omega arith
 
 add-if3 : tie.Need-add-if3
-add-if3 c = search needs
+add-if3 c = omega arith
 
 shared-slice-read-if3 : tie.Need-shared-slice-read-if3
-shared-slice-read-if3 c = search needs
+shared-slice-read-if3 c = omega arith
 
 add-read-events : tie.Need-add-read-events
-add-read-events c = search needs
+add-read-events c = omega arith
 
 read-events-requires : tie.Need-read-events-requires
 read-events-requires c κs = search needs

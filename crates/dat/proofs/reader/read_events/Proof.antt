@@ -8,7 +8,6 @@ use Rattle.words.specs.Words.{nextAt}
 use Rattle.words.specs.declared.Next.the-variants.{Word}
 use lib.Dec.{lit<}
 use lib.ListN.{length}
-use borrow.Author.Needs.{needs}
 use native.Mathlib.Omega.{arith}
 use mathlib.Core.List.{List}
 use Prim.Native.Nat.{ℕ, _+_, _-_, _≤_}
@@ -42,7 +41,7 @@ word-fits : (d : Gave-place) → place d + 8 ≤ length (bytes d)
 word-fits d = word-in (d .before .before .before .before .before .before .before .loop .inv) (lit< tt) (word d)
 
 fresh-requires : tie.Need-fresh-requires Inv-loop μ-loop
-fresh-requires c κs = search needs
+fresh-requires c κs = tt
 
 loop-holds : tie.Need-loop-holds Inv-loop μ-loop
 loop-holds c = rw (c .fresh .ensures) (between-start _ _ fresh _ _ (c .before .before .before .pre))
@@ -57,10 +56,10 @@ part-first64-end : tie.Need-part-first64-end Inv-loop μ-loop
 part-first64-end c = omega (arith, c .loop .inv .within)
 
 first64-requires : tie.Need-first64-requires Inv-loop μ-loop
-first64-requires c κs = search needs
+first64-requires c κs = tt
 
 enum-told : tie.Need-enum-told Inv-loop μ-loop
-enum-told c = search needs
+enum-told c = c .match .keys1
 
 same-length : tie.Need-same-length Inv-loop μ-loop
 same-length c = between-length (c .before .before .before .before .loop .inv)
@@ -71,7 +70,7 @@ returns c =
     ends-whole i (found i (c .before .before .first64 .ensures) (c .enum-told .given .1)) refl
 
 enum-told-2 : tie.Need-enum-told-2 Inv-loop μ-loop
-enum-told-2 c = search needs
+enum-told-2 c = c .match .keys2
 
 same-length-2 : tie.Need-same-length-2 Inv-loop μ-loop
 same-length-2 c = between-length (c .before .before .before .before .loop .inv)
@@ -82,13 +81,13 @@ returns-2 c =
     ends-part i (found i (c .before .before .first64 .ensures) (c .enum-told2 .given .1))
 
 enum-known-next : tie.Need-enum-known-next Inv-loop μ-loop
-enum-known-next c = search needs
+enum-known-next c = c .match .keys3
 
 give-requires : tie.Need-give-requires Inv-loop μ-loop
 give-requires c κs = between-room (c .before .before .before .before .before .before .loop .inv)
 
 enum-told-3 : tie.Need-enum-told-3 Inv-loop μ-loop
-enum-told-3 c = search needs
+enum-told-3 c = c .match2 .keys1
 
 same-length-3 : tie.Need-same-length-3 Inv-loop μ-loop
 same-length-3 c =
@@ -101,7 +100,7 @@ returns-3 c =
     ends-gave-full (d .before .before .before .before .before .before .before .loop .inv) (lit< tt) (word d) _ (in-parts _ _ _ refl) (d .give .ensures) (c .enum-told3 .given .1)
 
 enum-known-gave : tie.Need-enum-known-gave Inv-loop μ-loop
-enum-known-gave c = search needs
+enum-known-gave c = c .match2 .keys2
 
 same-length-4 : tie.Need-same-length-4 Inv-loop μ-loop
 same-length-4 c =
@@ -114,7 +113,7 @@ returns-4 c =
     ends-gave (d .before .before .before .before .before .before .before .loop .inv) (lit< tt) (word d) _ (in-parts _ _ _ refl) (d .give .ensures) (c .before .gave .given .1)
 
 enum-known-gave-2 : tie.Need-enum-known-gave-2 Inv-loop μ-loop
-enum-known-gave-2 c = search needs
+enum-known-gave-2 c = c .match2 .keys3
 
 add-at : tie.Need-add-at Inv-loop μ-loop
 add-at c =
@@ -122,7 +121,7 @@ add-at c =
     omega (arith, word-fits d, d .before .before .before .before .before .before .before .before .before .before .before .good)
 
 event-requires : tie.Need-event-requires Inv-loop μ-loop
-event-requires c κs = search needs
+event-requires c κs = tt
 
 loop-less : tie.Need-loop-less Inv-loop μ-loop
 loop-less c = omega (arith, word-fits (c .before .before .before .before .before .before))

@@ -13,7 +13,6 @@ use Rattle.words.specs.declared.Next.the-variants.{Word}
 use Rattle.words.specs.declared.Gave.the-variants.{Rows}
 use lib.Dec.{lit<}
 use lib.ListN.{length}
-use borrow.Author.Needs.{needs}
 use native.Mathlib.Omega.{arith}
 use mathlib.Core.List.{List}
 use Prim.Native.Nat.{ℕ, _+_, _-_, _≤_}
@@ -58,7 +57,7 @@ after-word : (d : Gave-place) {s′ : State} {count : ℕ} → s′ ≡ nextAs (
 after-word d next gave = goes-on-gave (d .before .before .before .before .before .before .before .before .loop .inv) (lit< tt) (word d) _ (in-parts _ _ _ _ (d .before .before .kind .ensures) next) (d .give .ensures) gave
 
 fresh-requires : tie.Need-fresh-requires Inv-loop μ-loop
-fresh-requires c κs = search needs
+fresh-requires c κs = tt
 
 loop-holds : tie.Need-loop-holds Inv-loop μ-loop
 loop-holds c = rw (c .fresh .ensures) (between-start _ _ fresh 0 _ (omega arith))
@@ -73,13 +72,13 @@ part-first32-end : tie.Need-part-first32-end Inv-loop μ-loop
 part-first32-end c = omega (arith, c .loop .inv .within)
 
 first32-requires : tie.Need-first32-requires Inv-loop μ-loop
-first32-requires c κs = search needs
+first32-requires c κs = tt
 
 enum-told : tie.Need-enum-told Inv-loop μ-loop
-enum-told c = search needs
+enum-told c = c .match .keys1
 
 is-pending-requires : tie.Need-is-pending-requires Inv-loop μ-loop
-is-pending-requires c κs = search needs
+is-pending-requires c κs = tt
 
 same-length : tie.Need-same-length Inv-loop μ-loop
 same-length c = between-length (c .before .before .before .before .before .before .loop .inv)
@@ -99,10 +98,10 @@ returns-2 c =
     ends-whole i (found i (c .before .before .before .before .first32 .ensures) (c .before .before .enum-told .given .1)) (sym (c .before .is-pending .ensures) ∙ c .if1 .left)
 
 enum-told-2 : tie.Need-enum-told-2 Inv-loop μ-loop
-enum-told-2 c = search needs
+enum-told-2 c = c .match .keys2
 
 origin-requires : tie.Need-origin-requires Inv-loop μ-loop
-origin-requires c κs = search needs
+origin-requires c κs = tt
 
 same-length-3 : tie.Need-same-length-3 Inv-loop μ-loop
 same-length-3 c = between-length (c .before .before .before .before .before .loop .inv)
@@ -113,19 +112,19 @@ returns-3 c =
     rw (c .origin .ensures) (ends-part i (found i (c .before .before .before .first32 .ensures) (c .before .enum-told2 .given .1)))
 
 enum-known-next : tie.Need-enum-known-next Inv-loop μ-loop
-enum-known-next c = search needs
+enum-known-next c = c .match .keys3
 
 kind-requires : tie.Need-kind-requires Inv-loop μ-loop
-kind-requires c κs = search needs
+kind-requires c κs = tt
 
 give-requires : tie.Need-give-requires Inv-loop μ-loop
 give-requires c κs = between-room (c .before .before .before .before .before .before .before .loop .inv)
 
 enum-told-3 : tie.Need-enum-told-3 Inv-loop μ-loop
-enum-told-3 c = search needs
+enum-told-3 c = c .match2 .keys1
 
 origin-requires-2 : tie.Need-origin-requires-2 Inv-loop μ-loop
-origin-requires-2 c κs = search needs
+origin-requires-2 c κs = tt
 
 same-length-4 : tie.Need-same-length-4 Inv-loop μ-loop
 same-length-4 c =
@@ -138,7 +137,7 @@ returns-4 c =
     rw (c .origin2 .ensures) (ends-gave-full (d .before .before .before .before .before .before .before .before .loop .inv) (lit< tt) (word d) _ (in-parts _ _ _ _ (d .before .before .kind .ensures) refl) (d .give .ensures) (c .before .enum-told3 .given .1))
 
 enum-known-gave : tie.Need-enum-known-gave Inv-loop μ-loop
-enum-known-gave c = search needs
+enum-known-gave c = c .match2 .keys2
 
 same-length-5 : tie.Need-same-length-5 Inv-loop μ-loop
 same-length-5 c =
@@ -151,58 +150,66 @@ returns-5 c =
     ends-gave (d .before .before .before .before .before .before .before .before .loop .inv) (lit< tt) (word d) _ (in-parts _ _ _ _ (d .before .before .kind .ensures) refl) (d .give .ensures) (c .before .gave .given .1)
 
 enum-known-gave-2 : tie.Need-enum-known-gave-2 Inv-loop μ-loop
-enum-known-gave-2 c = search needs
+enum-known-gave-2 c = c .match2 .keys3
 
 add-at : tie.Need-add-at Inv-loop μ-loop
 add-at c = omega (arith, word-fits (c .before .before .before .before .before), c .before .before .before .before .before .before .before .before .before .before .before .before .before .before .before .before .before .good)
 
 enum-told-4 : tie.Need-enum-told-4 Inv-loop μ-loop
-enum-told-4 c = search needs
+enum-told-4 c = c .match3 .keys1
 
 time-high-requires : tie.Need-time-high-requires Inv-loop μ-loop
-time-high-requires c κs = search needs
+time-high-requires c κs = tt
 
 loop-less : tie.Need-loop-less Inv-loop μ-loop
 loop-less c = omega (arith, word-fits (c .before .before .before .before .before .before .before .before))
 
 loop-again : tie.Need-loop-again Inv-loop μ-loop
-loop-again c = after-word (c .before .before .before .before .before .before .before .before) (leads _ _ _ TimeHigh (c .before .enum-told4 .given .1) (c .time-high .ensures)) (c .before .before .before .before .gave2 .given .1)
+loop-again c =
+    let d = c .before .before .before .before .before .before .before .before in
+    after-word d (leads (state d) (place d) (w d) TimeHigh (c .before .enum-told4 .given .1) (c .time-high .ensures)) (c .before .before .before .before .gave2 .given .1)
 
 enum-told-5 : tie.Need-enum-told-5 Inv-loop μ-loop
-enum-told-5 c = search needs
+enum-told-5 c = c .match3 .keys2
 
 imu-evt-requires : tie.Need-imu-evt-requires Inv-loop μ-loop
-imu-evt-requires c κs = search needs
+imu-evt-requires c κs = tt
 
 loop-less-2 : tie.Need-loop-less-2 Inv-loop μ-loop
 loop-less-2 c = omega (arith, word-fits (c .before .before .before .before .before .before .before .before))
 
 loop-again-2 : tie.Need-loop-again-2 Inv-loop μ-loop
-loop-again-2 c = after-word (c .before .before .before .before .before .before .before .before) (leads _ _ _ ImuEvt (c .before .enum-told5 .given .1) (c .imu-evt .ensures)) (c .before .before .before .before .gave2 .given .1)
+loop-again-2 c =
+    let d = c .before .before .before .before .before .before .before .before in
+    after-word d (leads (state d) (place d) (w d) ImuEvt (c .before .enum-told5 .given .1) (c .imu-evt .ensures)) (c .before .before .before .before .gave2 .given .1)
 
 enum-told-6 : tie.Need-enum-told-6 Inv-loop μ-loop
-enum-told-6 c = search needs
+enum-told-6 c = c .match3 .keys3
 
 others-requires : tie.Need-others-requires Inv-loop μ-loop
-others-requires c κs = search needs
+others-requires c κs = tt
 
 loop-less-3 : tie.Need-loop-less-3 Inv-loop μ-loop
 loop-less-3 c = omega (arith, word-fits (c .before .before .before .before .before .before .before .before))
 
 loop-again-3 : tie.Need-loop-again-3 Inv-loop μ-loop
-loop-again-3 c = after-word (c .before .before .before .before .before .before .before .before) (leads _ _ _ Others (c .before .enum-told6 .given .1) (c .others .ensures)) (c .before .before .before .before .gave2 .given .1)
+loop-again-3 c =
+    let d = c .before .before .before .before .before .before .before .before in
+    after-word d (leads (state d) (place d) (w d) Others (c .before .enum-told6 .given .1) (c .others .ensures)) (c .before .before .before .before .gave2 .given .1)
 
 enum-told-7 : tie.Need-enum-told-7 Inv-loop μ-loop
-enum-told-7 c = search needs
+enum-told-7 c = c .match3 .keys4
 
 further-requires : tie.Need-further-requires Inv-loop μ-loop
-further-requires c κs = search needs
+further-requires c κs = tt
 
 loop-less-4 : tie.Need-loop-less-4 Inv-loop μ-loop
 loop-less-4 c = omega (arith, word-fits (c .before .before .before .before .before .before .before .before))
 
 loop-again-4 : tie.Need-loop-again-4 Inv-loop μ-loop
-loop-again-4 c = after-word (c .before .before .before .before .before .before .before .before) (leads _ _ _ Inside (c .before .enum-told7 .given .1) (c .further .ensures)) (c .before .before .before .before .gave2 .given .1)
+loop-again-4 c =
+    let d = c .before .before .before .before .before .before .before .before in
+    after-word d (leads (state d) (place d) (w d) Inside (c .before .enum-told7 .given .1) (c .further .ensures)) (c .before .before .before .before .gave2 .given .1)
 
 loop-less-5 : tie.Need-loop-less-5 Inv-loop μ-loop
 loop-less-5 c = omega (arith, word-fits (c .before .before .before .before .before .before))

@@ -1,12 +1,11 @@
 -- `evt2::writer::clock_length` meets its contract.
 use Rattle.evt2.specs.Spelling.{clockWords}
 use mathlib.Core.Path.{sym, _∙_}
-use borrow.Author.Needs.{needs}
 use Rattle.evt2.proofs.writer.clock_length.Statement.{statement}
 use Rattle.evt2.proofs.writer.clock_length.Tie as tie
 
 is-told-requires : tie.Need-is-told-requires
-is-told-requires c κs = search needs
+is-told-requires c κs = tt
 
 returns : tie.Need-returns
 unfolding clockWords

@@ -1,5 +1,4 @@
 -- `evt2::writer::count` meets its contract.
-use borrow.Author.Needs.{needs}
 use Rattle.evt2.proofs.RowSteps.{Counts, counts-start, counts-done, counts-refused, counts-next}
 use Rattle.evt2.proofs.Spelled.{row-short}
 use Rattle.rows.proofs.Lists.{row-found, row-past}
@@ -38,10 +37,10 @@ loop-holds : tie.Need-loop-holds Inv-loop μ-loop
 loop-holds c = counts-start _
 
 get-requires : tie.Need-get-requires Inv-loop μ-loop
-get-requires c κs = search needs
+get-requires c κs = tt
 
 enum-told : tie.Need-enum-told Inv-loop μ-loop
-enum-told c = search needs
+enum-told c = c .match .keys1
 
 returns : tie.Need-returns Inv-loop μ-loop
 returns c =
@@ -49,13 +48,13 @@ returns c =
     counts-done (c .before .before .before .loop .inv) (row-past (c .before .before .before .before .before .args .rows .now) (c .before .before .before .loop .i) found)
 
 enum-known-found : tie.Need-enum-known-found Inv-loop μ-loop
-enum-known-found c = search needs
+enum-known-found c = c .match .keys2
 
 judge-requires : tie.Need-judge-requires Inv-loop μ-loop
-judge-requires c κs = search needs
+judge-requires c κs = tt
 
 enum-known-judged : tie.Need-enum-known-judged Inv-loop μ-loop
-enum-known-judged c = search needs
+enum-known-judged c = c .match2 .keys1
 
 returns-2 : tie.Need-returns-2 Inv-loop μ-loop
 returns-2 c =
@@ -63,13 +62,13 @@ returns-2 c =
     counts-refused (d .before .before .before .before .loop .inv) (here d .0) (here d .1) (sym (c .before .judged .given .1) ∙ c .before .before .before .judge .ensures)
 
 enum-known-judged-2 : tie.Need-enum-known-judged-2 Inv-loop μ-loop
-enum-known-judged-2 c = search needs
+enum-known-judged-2 c = c .match2 .keys2
 
 clock-length-requires : tie.Need-clock-length-requires Inv-loop μ-loop
-clock-length-requires c κs = search needs
+clock-length-requires c κs = tt
 
 event-length-requires : tie.Need-event-length-requires Inv-loop μ-loop
-event-length-requires c κs = search needs
+event-length-requires c κs = tt
 
 add-words : tie.Need-add-words Inv-loop μ-loop
 add-words c = omega (arith, row-short _ _ _ _ (c .before .clock-length .ensures) (c .event-length .ensures))

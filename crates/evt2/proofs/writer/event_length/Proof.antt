@@ -3,21 +3,20 @@ use lib.ListN.{length}
 use Rattle.evt2.proofs.Spelled.{no-words}
 use Rattle.evt2.specs.Spelling.{eventAs}
 use mathlib.Core.Path.{sym, _∙_, ap}
-use borrow.Author.Needs.{needs}
 use Rattle.evt2.proofs.writer.event_length.Statement.{statement}
 use Rattle.evt2.proofs.writer.event_length.Tie as tie
 
 of-requires : tie.Need-of-requires
-of-requires c κs = search needs
+of-requires c κs = tt
 
 enum-told : tie.Need-enum-told
-enum-told c = search needs
+enum-told c = c .match .keys1
 
 enum-told-2 : tie.Need-enum-told-2
-enum-told-2 c = search needs
+enum-told-2 c = c .match .keys2
 
 enum-told-3 : tie.Need-enum-told-3
-enum-told-3 c = search needs
+enum-told-3 c = c .match .keys3
 
 returns : tie.Need-returns
 unfolding eventAs

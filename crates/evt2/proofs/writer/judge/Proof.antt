@@ -4,18 +4,17 @@ use Rattle.evt2.specs.Spelling.{writable, writableAs}
 use Rattle.evt2.proofs.Spelled.{not-writable}
 use borrow.Author.Tests.{lt-ltb, le-ltb}
 use mathlib.Core.Path.{refl, sym, _∙_}
-use borrow.Author.Needs.{needs}
 use Rattle.evt2.proofs.writer.judge.Statement.{statement}
 use Rattle.evt2.proofs.writer.judge.Tie as tie
 
 of-requires : tie.Need-of-requires
-of-requires c κs = search needs
+of-requires c κs = tt
 
 enum-told : tie.Need-enum-told
-enum-told c = search needs
+enum-told c = c .match .keys1
 
 judge-requires : tie.Need-judge-requires
-judge-requires c κs = search needs
+judge-requires c κs = tt
 
 returns : tie.Need-returns
 unfolding writable
@@ -24,16 +23,16 @@ returns c =
     c .judge .ensures ∙ judged-kind writableAs (a .row) (a .last) (sym (c .before .before .before .before .before .before .of .ensures) ∙ c .before .before .before .before .enum-told .given .1) (rw (lt-ltb _ _ (c .before .before .if1 .taken)))
 
 enum-told-2 : tie.Need-enum-told-2
-enum-told-2 c = search needs
+enum-told-2 c = c .match .keys2
 
 judge-requires-2 : tie.Need-judge-requires-2
-judge-requires-2 c κs = search needs
+judge-requires-2 c κs = tt
 
 enum-told-3 : tie.Need-enum-told-3
-enum-told-3 c = search needs
+enum-told-3 c = c .match .keys3
 
 judge-requires-3 : tie.Need-judge-requires-3
-judge-requires-3 c κs = search needs
+judge-requires-3 c κs = tt
 
 returns-2 : tie.Need-returns-2
 unfolding writable

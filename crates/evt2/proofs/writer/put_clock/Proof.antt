@@ -10,7 +10,7 @@ use Rattle.evt2.proofs.writer.put_clock.Statement.{statement}
 use Rattle.evt2.proofs.writer.put_clock.Tie as tie
 
 is-told-requires : tie.Need-is-told-requires
-is-told-requires c κs = search needs
+is-told-requires c κs = tt
 
 returns : tie.Need-returns
 returns c =

@@ -12,16 +12,16 @@ use Rattle.evt2.proofs.writer.put_event.Statement.{statement}
 use Rattle.evt2.proofs.writer.put_event.Tie as tie
 
 time-requires : tie.Need-time-requires
-time-requires c κs = search needs
+time-requires c κs = tt
 
 mul-low : tie.Need-mul-low
 mul-low c = search needs
 
 of-requires : tie.Need-of-requires
-of-requires c κs = search needs
+of-requires c κs = tt
 
 enum-told : tie.Need-enum-told
-enum-told c = search needs
+enum-told c = c .match .keys1
 
 cast-below : tie.Need-cast-below
 cast-below c = search needs
@@ -51,7 +51,7 @@ put-word-requires : tie.Need-put-word-requires
 put-word-requires c κs = omega (arith, c .before .before .before .before .before .before .before .before .before .pre, pixel-length (c .before .before .before .before .before .before .before .before .before .args .row) (sym (c .before .before .before .before .before .before .of .ensures) ∙ c .before .before .before .before .enum-told .given .1))
 
 enum-told-2 : tie.Need-enum-told-2
-enum-told-2 c = search needs
+enum-told-2 c = c .match .keys2
 
 cast-below-3 : tie.Need-cast-below-3
 cast-below-3 c = search needs
@@ -75,7 +75,7 @@ put-word-requires-2 : tie.Need-put-word-requires-2
 put-word-requires-2 c κs = omega (arith, c .before .before .before .before .before .before .before .before .pre, trigger-length (c .before .before .before .before .before .before .before .before .args .row) (sym (c .before .before .before .before .before .of .ensures) ∙ c .before .before .before .enum-told2 .given .1))
 
 enum-told-3 : tie.Need-enum-told-3
-enum-told-3 c = search needs
+enum-told-3 c = c .match .keys3
 
 put-counts-requires : tie.Need-put-counts-requires
 put-counts-requires c κs = subst (λ (k : Kind). c .before .before .before .before .before .before .args .at + length (eventAs k (c .before .before .before .before .before .before .args .row)) * 4 ≤ length (c .before .before .before .before .before .before .args .out .now)) (sym (c .before .before .before .of .ensures) ∙ c .before .enum-told3 .given .1) (c .before .before .before .before .before .before .pre)

@@ -7,7 +7,6 @@ use mathlib.Core.List.{List}
 use Prim.Native.Nat.{ℕ, _*_, _<_, _/_, _-_}
 use native.Mathlib.Omega.{arith}
 use mathlib.Core.Path.{_≡_, sym, _∙_}
-use borrow.Author.Needs.{needs}
 use Rattle.evt2.proofs.writer.put_rows.Statement.{statement}
 use Rattle.evt2.proofs.writer.put_rows.Tie as tie
 
@@ -37,10 +36,10 @@ loop-holds : tie.Need-loop-holds Inv-loop μ-loop
 loop-holds c = puts-start _ _
 
 get-requires : tie.Need-get-requires Inv-loop μ-loop
-get-requires c κs = search needs
+get-requires c κs = tt
 
 enum-told : tie.Need-enum-told Inv-loop μ-loop
-enum-told c = search needs
+enum-told c = c .match .keys1
 
 same-length : tie.Need-same-length Inv-loop μ-loop
 same-length c = puts-length (c .before .before .before .loop .inv)
@@ -51,10 +50,10 @@ returns c =
     puts-done (c .before .before .before .loop .inv) (row-past (c .before .before .before .before .before .before .args .rows .now) (c .before .before .before .loop .done) found)
 
 enum-known-found : tie.Need-enum-known-found Inv-loop μ-loop
-enum-known-found c = search needs
+enum-known-found c = c .match .keys2
 
 time-requires : tie.Need-time-requires Inv-loop μ-loop
-time-requires c κs = search needs
+time-requires c κs = tt
 
 put-clock-requires : tie.Need-put-clock-requires Inv-loop μ-loop
 put-clock-requires c κs =

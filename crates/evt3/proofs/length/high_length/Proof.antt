@@ -8,7 +8,7 @@ use Rattle.evt3.proofs.length.high_length.Statement.{statement}
 use Rattle.evt3.proofs.length.high_length.Tie as tie
 
 is-known-requires : tie.Need-is-known-requires
-is-known-requires c κs = search needs
+is-known-requires c κs = tt
 
 cast-result : tie.Need-cast-result
 cast-result c = search needs
@@ -17,7 +17,7 @@ returns : tie.Need-returns
 returns c = rw (c .before .if1 .taken) (high-none _ _ _ (c .is-known .ensures))
 
 is-known-requires-2 : tie.Need-is-known-requires-2
-is-known-requires-2 c κs = search needs
+is-known-requires-2 c κs = tt
 
 cast-first : tie.Need-cast-first
 cast-first c = search needs

@@ -6,24 +6,23 @@ use Rattle.rows.specs.declared.rules.Kind.the-variants.{Trigger}
 use lib.ListN.{length}
 use native.Mathlib.Omega.{arith}
 use mathlib.Core.Path.{sym, _∙_, ap}
-use borrow.Author.Needs.{needs}
 use Rattle.evt3.proofs.length.other_length.Statement.{statement}
 use Rattle.evt3.proofs.length.other_length.Tie as tie
 
 of-requires : tie.Need-of-requires
-of-requires c κs = search needs
+of-requires c κs = tt
 
 span-length-requires : tie.Need-span-length-requires
-span-length-requires c κs = search needs
+span-length-requires c κs = tt
 
 time-length-requires : tie.Need-time-length-requires
-time-length-requires c κs = search needs
+time-length-requires c κs = tt
 
 add-before : tie.Need-add-before
 add-before c = omega (arith, c .time-length .ensures, time-most (c .before .before .before .args .told .timed) (c .before .before .before .args .told .time) (c .before .before .before .args .time), c .before .span-length .ensures, span-short (c .before .before .before .args .span))
 
 enum-told : tie.Need-enum-told
-enum-told c = search needs
+enum-told c = c .match .keys1
 
 add-result : tie.Need-add-result
 add-result c = omega (arith, c .before .before .time-length .ensures, time-most (c .before .before .before .before .before .args .told .timed) (c .before .before .before .before .before .args .told .time) (c .before .before .before .before .before .args .time), c .before .before .before .span-length .ensures, span-short (c .before .before .before .before .before .args .span))

@@ -10,14 +10,14 @@ use Rattle.evt3.proofs.length.time_length.Statement.{statement}
 use Rattle.evt3.proofs.length.time_length.Tie as tie
 
 is-known-requires : tie.Need-is-known-requires
-is-known-requires c κs = search needs
+is-known-requires c κs = tt
 
 returns : tie.Need-returns
 unfolding timeWords
 returns c = rw (sym (c .before .is-known .ensures) ∙ c .if1 .taken)
 
 wraps-between-requires : tie.Need-wraps-between-requires
-wraps-between-requires c κs = search needs
+wraps-between-requires c κs = tt
 
 high-length-requires : tie.Need-high-length-requires
 high-length-requires c κs = search needs

@@ -17,7 +17,7 @@ loop-holds : tie.Need-loop-holds Inv-loop μ-loop
 loop-holds c = record { writes = writes-start 2 _ _ _ }
 
 is-known-requires : tie.Need-is-known-requires Inv-loop μ-loop
-is-known-requires c κs = search needs
+is-known-requires c κs = tt
 
 put-unless-requires : tie.Need-put-unless-requires Inv-loop μ-loop
 put-unless-requires c κs = first-fits (c .before .before .before .loop .inv) (c .before .before .before .before .before .pre) (omega (arith, c .before .before .loop-test .taken)) (c .is-known .ensures)
@@ -35,7 +35,7 @@ loop-again : tie.Need-loop-again Inv-loop μ-loop
 loop-again c = wrapped (c .before .before .before .before .before .before .before .before .before .before .loop .inv) (c .before .before .before .before .before .before .before .before .before .before .before .before .pre) (omega (arith, c .before .before .before .before .before .before .before .before .before .loop-test .taken)) (c .before .before .before .before .before .before .before .is-known .ensures) (c .before .before .before .before .before .before .put-unless .ensures) (c .before .before .put-word .ensures)
 
 is-known-requires-2 : tie.Need-is-known-requires-2 Inv-loop μ-loop
-is-known-requires-2 c κs = search needs
+is-known-requires-2 c κs = tt
 
 add-put-unless : tie.Need-add-put-unless Inv-loop μ-loop
 add-put-unless c = search needs

@@ -14,10 +14,10 @@ put-time-requires : tie.Need-put-time-requires
 put-time-requires c κs = time-fits (c .before .before .before .before .before .before .args .told) (c .before .before .before .before .before .before .args .span) (c .before .before .before .before .before .before .args .time) _ _ (c .before .before .before .before .before .before .args .out .now) (c .before .before .before .before .before .before .args .at) (other-words (c .before .before .before .before .before .before .args .told) (c .before .before .before .before .before .before .args .span) (c .before .before .before .before .before .before .args .time) (c .before .before .before .before .before .before .args .row) refl) (c .before .before .before .before .before .before .pre) (c .before .before .before .put-span .ensures)
 
 of-requires : tie.Need-of-requires
-of-requires c κs = search needs
+of-requires c κs = tt
 
 enum-told : tie.Need-enum-told
-enum-told c = search needs
+enum-told c = c .match .keys1
 
 cast-put-word : tie.Need-cast-put-word
 cast-put-word c = search needs

@@ -8,14 +8,14 @@ use Rattle.evt3.proofs.put.put_time.Statement.{statement}
 use Rattle.evt3.proofs.put.put_time.Tie as tie
 
 is-known-requires : tie.Need-is-known-requires
-is-known-requires c κs = search needs
+is-known-requires c κs = tt
 
 returns : tie.Need-returns
 unfolding timeWords
 returns c = rw (sym (c .before .is-known .ensures) ∙ c .if1 .taken) (put-none _ _ _)
 
 wraps-between-requires : tie.Need-wraps-between-requires
-wraps-between-requires c κs = search needs
+wraps-between-requires c κs = tt
 
 cast-put-high : tie.Need-cast-put-high
 cast-put-high c = search needs

@@ -5,7 +5,7 @@ use Rattle.evt3.proofs.put.put_word.Statement.{statement}
 use Rattle.evt3.proofs.put.put_word.Tie as tie
 
 put-requires : tie.Need-put-requires
-put-requires c κs = search needs
+put-requires c κs = tt
 
 add-result : tie.Need-add-result
 add-result c = search needs

@@ -5,16 +5,16 @@ use Rattle.evt3.proofs.reader.read.Statement.{statement}
 use Rattle.evt3.proofs.reader.read.Tie as tie
 
 admit-requires : tie.Need-admit-requires
-admit-requires c κs = search needs
+admit-requires c κs = tt
 
 enum-known-admission : tie.Need-enum-known-admission
-enum-known-admission c = search needs
+enum-known-admission c = c .match .keys1
 
 enum-told : tie.Need-enum-told
-enum-told c = search needs
+enum-told c = c .match .keys2
 
 read-words-requires : tie.Need-read-words-requires
-read-words-requires c κs = search needs
+read-words-requires c κs = tt
 
 returns : tie.Need-returns
 returns c = reads-none _ (c .before .before .before .admit .ensures) (c .before .admission .given .1)

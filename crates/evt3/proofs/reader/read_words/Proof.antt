@@ -3,7 +3,6 @@ use mathlib.Core.Path.{_≡_, refl, _∙_}
 use Prim.Native.Nat.{ℕ, _+_, _-_, _≤_}
 use mathlib.Core.List.{List}
 use native.Mathlib.Omega.{arith}
-use borrow.Author.Needs.{needs}
 use lib.ListN.{length}
 use lib.Dec.{lit<}
 use Rattle.words.specs.declared.Gave.the-variants.{Rows}
@@ -56,7 +55,7 @@ after-word : (d : Gave-place) {s′ : State} {count : ℕ} → InParts (d .befor
 after-word d parts gave = goes-on-gave (d .before .before .before .before .before .before .before .before .loop .inv) (lit< tt) (word d) _ parts (d .give .ensures) gave
 
 fresh-requires : tie.Need-fresh-requires Inv-loop μ-loop
-fresh-requires c κs = search needs
+fresh-requires c κs = tt
 
 loop-holds : tie.Need-loop-holds Inv-loop μ-loop
 loop-holds c = rw (c .fresh .ensures) (between-start _ _ fresh 0 _ (omega arith))
@@ -71,10 +70,10 @@ part-first16-end : tie.Need-part-first16-end Inv-loop μ-loop
 part-first16-end c = omega (arith, c .loop .inv .within)
 
 first16-requires : tie.Need-first16-requires Inv-loop μ-loop
-first16-requires c κs = search needs
+first16-requires c κs = tt
 
 enum-told : tie.Need-enum-told Inv-loop μ-loop
-enum-told c = search needs
+enum-told c = c .match .keys1
 
 same-length : tie.Need-same-length Inv-loop μ-loop
 same-length c = between-length (c .before .before .before .before .loop .inv)
@@ -85,7 +84,7 @@ returns c =
     ends-whole i (found i (c .before .before .first16 .ensures) (c .enum-told .given .1)) refl
 
 enum-told-2 : tie.Need-enum-told-2 Inv-loop μ-loop
-enum-told-2 c = search needs
+enum-told-2 c = c .match .keys2
 
 same-length-2 : tie.Need-same-length-2 Inv-loop μ-loop
 same-length-2 c = between-length (c .before .before .before .before .loop .inv)
@@ -96,16 +95,16 @@ returns-2 c =
     ends-part i (found i (c .before .before .first16 .ensures) (c .enum-told2 .given .1))
 
 enum-known-next : tie.Need-enum-known-next Inv-loop μ-loop
-enum-known-next c = search needs
+enum-known-next c = c .match .keys3
 
 of-requires : tie.Need-of-requires Inv-loop μ-loop
-of-requires c κs = search needs
+of-requires c κs = tt
 
 give-requires : tie.Need-give-requires Inv-loop μ-loop
 give-requires c κs = between-room (c .before .before .before .before .before .before .before .loop .inv)
 
 enum-told-3 : tie.Need-enum-told-3 Inv-loop μ-loop
-enum-told-3 c = search needs
+enum-told-3 c = c .match2 .keys1
 
 same-length-3 : tie.Need-same-length-3 Inv-loop μ-loop
 same-length-3 c =
@@ -115,10 +114,10 @@ same-length-3 c =
 returns-3 : tie.Need-returns-3 Inv-loop μ-loop
 returns-3 c =
     let d = c .before .before .before .before in
-    ends-gave-full (d .before .before .before .before .before .before .before .before .loop .inv) (lit< tt) (word d) _ (any-parts _ _ _ (d .before .before .of .ensures)) (d .give .ensures) (c .enum-told3 .given .1)
+    ends-gave-full (d .before .before .before .before .before .before .before .before .loop .inv) (lit< tt) (word d) _ (any-parts (picture d) (state d) (w d) (d .before .before .of .ensures)) (d .give .ensures) (c .enum-told3 .given .1)
 
 enum-known-gave : tie.Need-enum-known-gave Inv-loop μ-loop
-enum-known-gave c = search needs
+enum-known-gave c = c .match2 .keys2
 
 same-length-4 : tie.Need-same-length-4 Inv-loop μ-loop
 same-length-4 c =
@@ -128,19 +127,19 @@ same-length-4 c =
 returns-4 : tie.Need-returns-4 Inv-loop μ-loop
 returns-4 c =
     let d = c .before .before .before .before .before in
-    ends-gave (d .before .before .before .before .before .before .before .before .loop .inv) (lit< tt) (word d) _ (any-parts _ _ _ (d .before .before .of .ensures)) (d .give .ensures) (c .before .gave .given .1)
+    ends-gave (d .before .before .before .before .before .before .before .before .loop .inv) (lit< tt) (word d) _ (any-parts (picture d) (state d) (w d) (d .before .before .of .ensures)) (d .give .ensures) (c .before .gave .given .1)
 
 enum-known-gave-2 : tie.Need-enum-known-gave-2 Inv-loop μ-loop
-enum-known-gave-2 c = search needs
+enum-known-gave-2 c = c .match2 .keys3
 
 add-at : tie.Need-add-at Inv-loop μ-loop
 add-at c = omega (arith, word-fits (c .before .before .before .before .before), c .before .before .before .before .before .before .before .before .before .before .before .before .before .before .before .before .before .good)
 
 enum-told-4 : tie.Need-enum-told-4 Inv-loop μ-loop
-enum-told-4 c = search needs
+enum-told-4 c = c .match3 .keys1
 
 addr-y-requires : tie.Need-addr-y-requires Inv-loop μ-loop
-addr-y-requires c κs = search needs
+addr-y-requires c κs = tt
 
 loop-less : tie.Need-loop-less Inv-loop μ-loop
 loop-less c = omega (arith, word-fits (c .before .before .before .before .before .before .before .before))
@@ -148,13 +147,13 @@ loop-less c = omega (arith, word-fits (c .before .before .before .before .before
 loop-again : tie.Need-loop-again Inv-loop μ-loop
 loop-again c =
     let d = c .before .before .before .before .before .before .before .before in
-    after-word d (addr-y-sets _ _ _ (d .before .before .of .ensures) (c .before .enum-told4 .given .1) (c .addr-y .ensures)) (c .before .before .before .before .gave2 .given .1)
+    after-word d (addr-y-sets (picture d) (state d) (w d) (d .before .before .of .ensures) (c .before .enum-told4 .given .1) (c .addr-y .ensures)) (c .before .before .before .before .gave2 .given .1)
 
 enum-told-5 : tie.Need-enum-told-5 Inv-loop μ-loop
-enum-told-5 c = search needs
+enum-told-5 c = c .match3 .keys2
 
 vect-base-x-requires : tie.Need-vect-base-x-requires Inv-loop μ-loop
-vect-base-x-requires c κs = search needs
+vect-base-x-requires c κs = tt
 
 loop-less-2 : tie.Need-loop-less-2 Inv-loop μ-loop
 loop-less-2 c = omega (arith, word-fits (c .before .before .before .before .before .before .before .before))
@@ -162,13 +161,13 @@ loop-less-2 c = omega (arith, word-fits (c .before .before .before .before .befo
 loop-again-2 : tie.Need-loop-again-2 Inv-loop μ-loop
 loop-again-2 c =
     let d = c .before .before .before .before .before .before .before .before in
-    after-word d (vect-base-x-sets _ _ _ (d .before .before .of .ensures) (c .before .enum-told5 .given .1) (c .vect-base-x .ensures)) (c .before .before .before .before .gave2 .given .1)
+    after-word d (vect-base-x-sets (picture d) (state d) (w d) (d .before .before .of .ensures) (c .before .enum-told5 .given .1) (c .vect-base-x .ensures)) (c .before .before .before .before .gave2 .given .1)
 
 enum-told-6 : tie.Need-enum-told-6 Inv-loop μ-loop
-enum-told-6 c = search needs
+enum-told-6 c = c .match3 .keys3
 
 vect-12-requires : tie.Need-vect-12-requires Inv-loop μ-loop
-vect-12-requires c κs = search needs
+vect-12-requires c κs = tt
 
 loop-less-3 : tie.Need-loop-less-3 Inv-loop μ-loop
 loop-less-3 c = omega (arith, word-fits (c .before .before .before .before .before .before .before .before))
@@ -176,13 +175,13 @@ loop-less-3 c = omega (arith, word-fits (c .before .before .before .before .befo
 loop-again-3 : tie.Need-loop-again-3 Inv-loop μ-loop
 loop-again-3 c =
     let d = c .before .before .before .before .before .before .before .before in
-    after-word d (vect-12-moves _ _ _ (d .before .before .of .ensures) (c .before .enum-told6 .given .1) (c .vect-12 .ensures)) (c .before .before .before .before .gave2 .given .1)
+    after-word d (vect-12-moves (picture d) (state d) (w d) (d .before .before .of .ensures) (c .before .enum-told6 .given .1) (c .vect-12 .ensures)) (c .before .before .before .before .gave2 .given .1)
 
 enum-told-7 : tie.Need-enum-told-7 Inv-loop μ-loop
-enum-told-7 c = search needs
+enum-told-7 c = c .match3 .keys4
 
 vect-8-requires : tie.Need-vect-8-requires Inv-loop μ-loop
-vect-8-requires c κs = search needs
+vect-8-requires c κs = tt
 
 loop-less-4 : tie.Need-loop-less-4 Inv-loop μ-loop
 loop-less-4 c = omega (arith, word-fits (c .before .before .before .before .before .before .before .before))
@@ -190,13 +189,13 @@ loop-less-4 c = omega (arith, word-fits (c .before .before .before .before .befo
 loop-again-4 : tie.Need-loop-again-4 Inv-loop μ-loop
 loop-again-4 c =
     let d = c .before .before .before .before .before .before .before .before in
-    after-word d (vect-8-moves _ _ _ (d .before .before .of .ensures) (c .before .enum-told7 .given .1) (c .vect-8 .ensures)) (c .before .before .before .before .gave2 .given .1)
+    after-word d (vect-8-moves (picture d) (state d) (w d) (d .before .before .of .ensures) (c .before .enum-told7 .given .1) (c .vect-8 .ensures)) (c .before .before .before .before .gave2 .given .1)
 
 enum-told-8 : tie.Need-enum-told-8 Inv-loop μ-loop
-enum-told-8 c = search needs
+enum-told-8 c = c .match3 .keys5
 
 time-low-requires : tie.Need-time-low-requires Inv-loop μ-loop
-time-low-requires c κs = search needs
+time-low-requires c κs = tt
 
 loop-less-5 : tie.Need-loop-less-5 Inv-loop μ-loop
 loop-less-5 c = omega (arith, word-fits (c .before .before .before .before .before .before .before .before))
@@ -204,10 +203,10 @@ loop-less-5 c = omega (arith, word-fits (c .before .before .before .before .befo
 loop-again-5 : tie.Need-loop-again-5 Inv-loop μ-loop
 loop-again-5 c =
     let d = c .before .before .before .before .before .before .before .before in
-    after-word d (time-low-sets _ _ _ (d .before .before .of .ensures) (c .before .enum-told8 .given .1) (c .time-low .ensures)) (c .before .before .before .before .gave2 .given .1)
+    after-word d (time-low-sets (picture d) (state d) (w d) (d .before .before .of .ensures) (c .before .enum-told8 .given .1) (c .time-low .ensures)) (c .before .before .before .before .gave2 .given .1)
 
 enum-told-9 : tie.Need-enum-told-9 Inv-loop μ-loop
-enum-told-9 c = search needs
+enum-told-9 c = c .match3 .keys6
 
 time-high-requires : tie.Need-time-high-requires Inv-loop μ-loop
 time-high-requires c κs = wraps-fit _ _ _ (c .enum-told9 .given .1) (c .before .before .before .before .before .before .before .give .ensures) (c .before .before .before .gave2 .given .1)
@@ -218,7 +217,7 @@ loop-less-6 c = omega (arith, word-fits (c .before .before .before .before .befo
 loop-again-6 : tie.Need-loop-again-6 Inv-loop μ-loop
 loop-again-6 c =
     let d = c .before .before .before .before .before .before .before .before in
-    after-word d (time-high-sets _ _ _ (d .before .before .of .ensures) (c .before .enum-told9 .given .1) (c .time-high .ensures)) (c .before .before .before .before .gave2 .given .1)
+    after-word d (time-high-sets (picture d) (state d) (w d) (d .before .before .of .ensures) (c .before .enum-told9 .given .1) (c .time-high .ensures)) (c .before .before .before .before .gave2 .given .1)
 
 loop-less-7 : tie.Need-loop-less-7 Inv-loop μ-loop
 loop-less-7 c = omega (arith, word-fits (c .before .before .before .before .before .before))
@@ -226,7 +225,7 @@ loop-less-7 c = omega (arith, word-fits (c .before .before .before .before .befo
 loop-again-7 : tie.Need-loop-again-7 Inv-loop μ-loop
 loop-again-7 c =
     let d = c .before .before .before .before .before .before in
-    after-word d (stays _ _ _ (d .before .before .of .ensures) (c .match3 .keys7)) (c .before .before .gave2 .given .1)
+    after-word d (stays (picture d) (state d) (w d) (d .before .before .of .ensures) (c .match3 .keys7)) (c .before .before .gave2 .given .1)
 
 pub read-words-spec : {M : Type 1} → statement M
 read-words-spec =

@@ -4,28 +4,27 @@ use Rattle.evt3.specs.Spelling.{writable, writableAs}
 use Rattle.rows.proofs.Judged.{judged-kind, judged-wordless}
 use borrow.Author.Tests.{lt-ltb, le-ltb}
 use mathlib.Core.Path.{refl, sym, _∙_}
-use borrow.Author.Needs.{needs}
 use Rattle.evt3.proofs.writer.judge.Statement.{statement}
 use Rattle.evt3.proofs.writer.judge.Tie as tie
 
 of-requires : tie.Need-of-requires
-of-requires c κs = search needs
+of-requires c κs = tt
 
 enum-told : tie.Need-enum-told
-enum-told c = search needs
+enum-told c = c .match .keys1
 
 judge-requires : tie.Need-judge-requires
-judge-requires c κs = search needs
+judge-requires c κs = tt
 
 returns : tie.Need-returns
 unfolding writable
 returns c = c .judge .ensures ∙ judged-kind writableAs (c .before .before .before .before .before .before .before .args .row) (c .before .before .before .before .before .before .before .args .last) (sym (c .before .before .before .before .before .before .of .ensures) ∙ c .before .before .before .before .enum-told .given .1) (rw (lt-ltb _ _ (c .before .before .if1 .taken)))
 
 enum-told-2 : tie.Need-enum-told-2
-enum-told-2 c = search needs
+enum-told-2 c = c .match .keys2
 
 judge-requires-2 : tie.Need-judge-requires-2
-judge-requires-2 c κs = search needs
+judge-requires-2 c κs = tt
 
 returns-2 : tie.Need-returns-2
 unfolding writable

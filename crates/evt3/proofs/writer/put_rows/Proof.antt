@@ -7,7 +7,6 @@ use Rattle.rows.specs.declared.row.Row.{Row}
 use mathlib.Core.List.{List}
 use Prim.Native.Nat.{ℕ, _*_, _-_, _<_}
 use native.Mathlib.Omega.{arith}
-use borrow.Author.Needs.{needs}
 use mathlib.Core.Path.{_≡_, refl, sym, _∙_}
 use Rattle.evt3.proofs.writer.put_rows.Statement.{statement}
 use Rattle.evt3.proofs.writer.put_rows.Tie as tie
@@ -35,19 +34,19 @@ here : (d : Found-place) → (index d < roomOf (list d)) × (row d ≡ rowFrom (
 here d = row-found (list d) (index d) (sym (d .before .found .given .1) ∙ d .before .before .before .get .ensures)
 
 nothing-requires : tie.Need-nothing-requires Inv-loop μ-loop
-nothing-requires c κs = search needs
+nothing-requires c κs = tt
 
 none-requires : tie.Need-none-requires Inv-loop μ-loop
-none-requires c κs = search needs
+none-requires c κs = tt
 
 loop-holds : tie.Need-loop-holds Inv-loop μ-loop
 loop-holds c = rw (c .before .nothing .ensures, c .none .ensures) (puts-start _ _ (c .before .before .before .before .pre .passed))
 
 get-requires : tie.Need-get-requires Inv-loop μ-loop
-get-requires c κs = search needs
+get-requires c κs = tt
 
 enum-told : tie.Need-enum-told Inv-loop μ-loop
-enum-told c = search needs
+enum-told c = c .match .keys1
 
 put-span-requires : tie.Need-put-span-requires Inv-loop μ-loop
 put-span-requires c κs = close-fits (c .before .before .before .before .loop .inv) (c .before .before .before .before .before .before .before .before .before .pre .fits) (row-past (c .before .before .before .before .before .before .before .before .before .args .rows .now) (c .before .before .before .before .loop .done) (sym (c .before .enum-told .given .1) ∙ c .before .before .before .get .ensures))
@@ -59,16 +58,16 @@ returns : tie.Need-returns Inv-loop μ-loop
 returns c = puts-done (c .before .before .before .before .before .before .before .loop .inv) (c .before .before .before .before .before .before .before .before .before .before .before .before .pre .fits) (row-past (c .before .before .before .before .before .before .before .before .before .before .before .before .args .rows .now) (c .before .before .before .before .before .before .before .loop .done) (sym (c .before .before .before .before .enum-told .given .1) ∙ c .before .before .before .before .before .before .get .ensures)) (c .before .before .put-span .ensures) .wrote
 
 enum-known-found : tie.Need-enum-known-found Inv-loop μ-loop
-enum-known-found c = search needs
+enum-known-found c = c .match .keys2
 
 time-requires : tie.Need-time-requires Inv-loop μ-loop
-time-requires c κs = search needs
+time-requires c κs = tt
 
 joins-requires : tie.Need-joins-requires Inv-loop μ-loop
 joins-requires c κs = c .before .before .time .ensures
 
 holds-requires : tie.Need-holds-requires Inv-loop μ-loop
-holds-requires c κs = search needs
+holds-requires c κs = tt
 
 with-requires : tie.Need-with-requires Inv-loop μ-loop
 with-requires c κs = sym (c .before .holds .ensures) ∙ c .if3 .taken
@@ -86,7 +85,7 @@ put-span-requires-2 : tie.Need-put-span-requires-2 Inv-loop μ-loop
 put-span-requires-2 c κs = adds-fit (c .before .before .before .before .before .before .before .before .before .before .before .before .loop .inv) (c .before .before .before .before .before .before .before .before .before .before .before .before .before .before .before .before .before .pre .fits) (here (c .before .before .before .before .before .before .before .before) .0) (here (c .before .before .before .before .before .before .before .before) .1) (adds-further (c .before .before .before .before .before .before .before .before .before .before .before .before .loop .told) (c .before .before .before .before .before .before .before .before .before .before .before .before .loop .span) (row (c .before .before .before .before .before .before .before .before)) (c .before .before .before .before .before .if1 .taken) (sym (c .before .before .before .before .joins .ensures) ∙ c .before .before .before .if2 .taken) (sym (c .before .before .holds .ensures) ∙ c .before .if3 .left) refl)
 
 next-requires : tie.Need-next-requires Inv-loop μ-loop
-next-requires c κs = search needs
+next-requires c κs = tt
 
 add-done-2 : tie.Need-add-done-2 Inv-loop μ-loop
 add-done-2 c = omega (arith, here (c .before .before .before .before .before .before .before .before .before .before .before .before) .0, c .before .before .before .before .before .before .before .before .before .before .before .before .before .before .before .before .before .before .before .before .before .good)
@@ -101,10 +100,10 @@ put-start-requires : tie.Need-put-start-requires Inv-loop μ-loop
 put-start-requires c κs = adds-fit (c .before .before .before .before .before .before .before .before .before .before .loop .inv) (c .before .before .before .before .before .before .before .before .before .before .before .before .before .before .before .pre .fits) (here (c .before .before .before .before .before .before) .0) (here (c .before .before .before .before .before .before) .1) (adds-first (c .before .before .before .before .before .before .before .before .before .before .loop .told) (c .before .before .before .before .before .before .before .before .before .before .loop .span) (row (c .before .before .before .before .before .before)) (c .before .before .before .if1 .taken) (sym (c .before .before .joins .ensures) ∙ c .before .if2 .left) (c .before .before .before .before .before .time .ensures) refl refl)
 
 first-requires : tie.Need-first-requires Inv-loop μ-loop
-first-requires c κs = search needs
+first-requires c κs = tt
 
 with-line-requires : tie.Need-with-line-requires Inv-loop μ-loop
-with-line-requires c κs = search needs
+with-line-requires c κs = tt
 
 add-done-3 : tie.Need-add-done-3 Inv-loop μ-loop
 add-done-3 c = omega (arith, here (c .before .before .before .before .before .before .before .before .before .before .before) .0, c .before .before .before .before .before .before .before .before .before .before .before .before .before .before .before .before .before .before .before .before .good)
@@ -119,10 +118,10 @@ put-other-requires : tie.Need-put-other-requires Inv-loop μ-loop
 put-other-requires c κs = adds-fit (c .before .before .before .before .before .before .before .before .loop .inv) (c .before .before .before .before .before .before .before .before .before .before .before .before .before .pre .fits) (here (c .before .before .before .before) .0) (here (c .before .before .before .before) .1) (adds-other (c .before .before .before .before .before .before .before .before .loop .told) (c .before .before .before .before .before .before .before .before .loop .span) (row (c .before .before .before .before)) (c .before .if1 .left) (c .before .before .before .time .ensures) refl refl)
 
 none-requires-2 : tie.Need-none-requires-2 Inv-loop μ-loop
-none-requires-2 c κs = search needs
+none-requires-2 c κs = tt
 
 with-time-requires : tie.Need-with-time-requires Inv-loop μ-loop
-with-time-requires c κs = search needs
+with-time-requires c κs = tt
 
 add-done-4 : tie.Need-add-done-4 Inv-loop μ-loop
 add-done-4 c = omega (arith, here (c .before .before .before .before .before .before .before .before .before) .0, c .before .before .before .before .before .before .before .before .before .before .before .before .before .before .before .before .before .before .good)

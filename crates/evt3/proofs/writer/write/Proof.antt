@@ -8,19 +8,19 @@ use Rattle.evt3.proofs.writer.write.Statement.{statement}
 use Rattle.evt3.proofs.writer.write.Tie as tie
 
 good-length-requires : tie.Need-good-length-requires
-good-length-requires c κs = search needs
+good-length-requires c κs = tt
 
 count-requires : tie.Need-count-requires
-count-requires c κs = search needs
+count-requires c κs = tt
 
 enum-known-counted : tie.Need-enum-known-counted
-enum-known-counted c = search needs
+enum-known-counted c = c .match .keys1
 
 returns : tie.Need-returns
 returns c = wrote-refused spelling _ _ (sym (c .before .before .before .before .before .good-length .ensures) ∙ c .before .before .before .before .if1 .taken) (c .before .before .before .count .ensures) (c .before .counted .given .1)
 
 enum-known-counted-2 : tie.Need-enum-known-counted-2
-enum-known-counted-2 c = search needs
+enum-known-counted-2 c = c .match .keys2
 
 returns-2 : tie.Need-returns-2
 returns-2 c = wrote-full spelling _ _ (sym (c .before .before .before .before .before .before .good-length .ensures) ∙ c .before .before .before .before .before .if1 .taken) (c .before .before .before .before .count .ensures) (c .before .before .counted2 .given .1) (omega (arith, c .if2 .taken))

@@ -1,6 +1,6 @@
 -- `header::line::is_line` meets its contract.
+use native.Mathlib.Omega.{arith}
 use Rattle.header.specs.Lines.{isLine}
-use borrow.Author.Needs.{needs}
 use borrow.Author.Tests.{le-leb, lt-leb, eq-eqb, ne-eqb}
 use Rattle.header.proofs.line.is_line.Statement.{statement}
 use Rattle.header.proofs.line.is_line.Tie as tie
@@ -10,10 +10,10 @@ unfolding isLine
 returns c = simp (lt-leb _ _ (c .if1 .taken))
 
 shared-slice-read-if2 : tie.Need-shared-slice-read-if2
-shared-slice-read-if2 c = search needs
+shared-slice-read-if2 c = omega arith
 
 shared-slice-read-result : tie.Need-shared-slice-read-result
-shared-slice-read-result c = search needs
+shared-slice-read-result c = omega arith
 
 returns-2 : tie.Need-returns-2
 unfolding isLine

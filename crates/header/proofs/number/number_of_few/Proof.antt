@@ -1,6 +1,5 @@
 -- `header::number::number_of_few` meets its contract.
 use Rattle.header.proofs.Digits.{Counted, counted-none, counted-small, counted-other, counted-digit, counted-next, counted-all}
-use borrow.Author.Needs.{needs}
 use lib.ListN.{length}
 use native.Mathlib.Omega.{arith}
 use Prim.Native.Nat.{_-_}
@@ -21,7 +20,7 @@ shared-slice-read-c : tie.Need-shared-slice-read-c Inv-loop μ-loop
 shared-slice-read-c c = omega (arith, c .before .loop-test .taken)
 
 is-digit-requires : tie.Need-is-digit-requires Inv-loop μ-loop
-is-digit-requires c κs = search needs
+is-digit-requires c κs = tt
 
 mul-n : tie.Need-mul-n Inv-loop μ-loop
 mul-n c = omega (arith, counted-small (c .before .before .before .before .loop .inv) (c .before .before .before .loop-test .taken) (c .before .before .before .before .before .before .pre .1))

@@ -1,6 +1,5 @@
 -- `header::reader::read` meets its contract.
 use Rattle.header.proofs.Lines.{Heading, heading-none, heading-long, heading-over, heading-stop, heading-moves, heading-more}
-use borrow.Author.Needs.{needs}
 use lib.ListN.{length}
 use native.Mathlib.Omega.{arith}
 use Prim.Native.Nat.{_-_}
@@ -29,28 +28,28 @@ part-read-line-end : tie.Need-part-read-line-end Inv-loop μ-loop
 part-read-line-end c = omega (arith, c .loop .inv .within)
 
 read-line-requires : tie.Need-read-line-requires Inv-loop μ-loop
-read-line-requires c κs = search needs
+read-line-requires c κs = tt
 
 enum-told : tie.Need-enum-told Inv-loop μ-loop
-enum-told c = search needs
+enum-told c = c .match .keys1
 
 or-limit-requires : tie.Need-or-limit-requires Inv-loop μ-loop
-or-limit-requires c κs = search needs
+or-limit-requires c κs = tt
 
 or-limit-requires-2 : tie.Need-or-limit-requires-2 Inv-loop μ-loop
-or-limit-requires-2 c κs = search needs
+or-limit-requires-2 c κs = tt
 
 returns-2 : tie.Need-returns-2 Inv-loop μ-loop
 returns-2 c = rw (c .before .or-limit .ensures, c .or-limit2 .ensures) (heading-over (c .before .before .before .before .before .before .loop .inv) (c .before .before .before .before .read-line .ensures) (c .before .before .enum-told .given .1))
 
 enum-known-found : tie.Need-enum-known-found Inv-loop μ-loop
-enum-known-found c = search needs
+enum-known-found c = c .match .keys2
 
 returns-3 : tie.Need-returns-3 Inv-loop μ-loop
 returns-3 c = heading-stop (c .before .before .before .before .before .loop .inv) (c .before .before .before .read-line .ensures) (c .before .found .given .1)
 
 enum-known-found-2 : tie.Need-enum-known-found-2 Inv-loop μ-loop
-enum-known-found-2 c = search needs
+enum-known-found-2 c = c .match .keys3
 
 add-at : tie.Need-add-at Inv-loop μ-loop
 add-at c = omega (arith, heading-moves (c .before .before .before .before .before .loop .inv) (c .before .before .before .read-line .ensures) (c .before .found2 .given .1) .1)

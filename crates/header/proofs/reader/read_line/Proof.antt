@@ -3,24 +3,23 @@ use Rattle.header.proofs.LineEnds.{line-in}
 use Rattle.header.proofs.Lines.{step-over, step-cut, step-endless, step-bad, step-good}
 use native.Mathlib.Omega.{arith}
 use mathlib.Core.Path.{sym, _∙_}
-use borrow.Author.Needs.{needs}
 use Rattle.header.proofs.reader.read_line.Statement.{statement}
 use Rattle.header.proofs.reader.read_line.Tie as tie
 
 is-line-requires : tie.Need-is-line-requires
-is-line-requires c κs = search needs
+is-line-requires c κs = tt
 
 line-end-requires : tie.Need-line-end-requires
-line-end-requires c κs = search needs
+line-end-requires c κs = tt
 
 enum-told : tie.Need-enum-told
-enum-told c = search needs
+enum-told c = c .match .keys1
 
 enum-told-2 : tie.Need-enum-told-2
-enum-told-2 c = search needs
+enum-told-2 c = c .match .keys2
 
 enum-known-line : tie.Need-enum-known-line
-enum-known-line c = search needs
+enum-known-line c = c .match .keys3
 
 sub-judge : tie.Need-sub-judge
 sub-judge c = line-in (c .before .before .before .before .before .before .before .args .bytes .now) (sym (c .before .before .before .before .before .is-line .ensures) ∙ c .before .before .before .before .if1 .taken) (c .before .before .before .line-end .ensures) (c .before .line .given .1) .0
@@ -32,13 +31,13 @@ part-judge-end : tie.Need-part-judge-end
 part-judge-end c = omega (arith, line-in (c .before .before .before .before .before .before .before .args .bytes .now) (sym (c .before .before .before .before .before .is-line .ensures) ∙ c .before .before .before .before .if1 .taken) (c .before .before .before .line-end .ensures) (c .before .line .given .1))
 
 judge-requires : tie.Need-judge-requires
-judge-requires c κs = search needs
+judge-requires c κs = tt
 
 enum-told-3 : tie.Need-enum-told-3
-enum-told-3 c = search needs
+enum-told-3 c = c .match2 .keys1
 
 enum-known-judged : tie.Need-enum-known-judged
-enum-known-judged c = search needs
+enum-known-judged c = c .match2 .keys2
 
 add-t19 : tie.Need-add-t19
 add-t19 c = omega (arith, line-in (c .before .before .before .before .before .before .before .before .before .before .before .before .args .bytes .now) (sym (c .before .before .before .before .before .before .before .before .before .before .is-line .ensures) ∙ c .before .before .before .before .before .before .before .before .before .if1 .taken) (c .before .before .before .before .before .before .before .before .line-end .ensures) (c .before .before .before .before .before .before .line .given .1) .1)

@@ -1,6 +1,5 @@
 -- `header::side::is_named` meets its contract.
 use Rattle.header.proofs.Keywords.{named-length, Matching, matching-none, matching-other, matching-next, matching-all}
-use borrow.Author.Needs.{needs}
 use lib.ListN.{length}
 use native.Mathlib.Omega.{arith}
 use Prim.Native.Nat.{_-_}
@@ -24,7 +23,7 @@ shared-slice-read-lower : tie.Need-shared-slice-read-lower Inv-loop μ-loop
 shared-slice-read-lower c = omega (arith, c .before .before .loop .inv .long, c .before .loop-test .taken)
 
 lower-requires : tie.Need-lower-requires Inv-loop μ-loop
-lower-requires c κs = search needs
+lower-requires c κs = tt
 
 shared-slice-read-if2 : tie.Need-shared-slice-read-if2 Inv-loop μ-loop
 shared-slice-read-if2 c = omega (arith, c .before .before .before .loop-test .taken)

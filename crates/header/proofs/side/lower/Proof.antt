@@ -1,6 +1,6 @@
 -- `header::side::lower` meets its contract.
+use native.Mathlib.Omega.{arith}
 use Rattle.header.specs.Sides.{lower}
-use borrow.Author.Needs.{needs}
 use borrow.Author.Tests.{le-leb, lt-leb}
 use Rattle.header.proofs.side.lower.Statement.{statement}
 use Rattle.header.proofs.side.lower.Tie as tie
@@ -14,7 +14,7 @@ unfolding lower
 returns-2 c = simp (le-leb _ _ (c .before .if1 .left), lt-leb _ _ (c .if2 .taken))
 
 add-result : tie.Need-add-result
-add-result c = search needs
+add-result c = omega arith
 
 returns-3 : tie.Need-returns-3
 unfolding lower

@@ -9,7 +9,7 @@ slice-aggregate-is-named : tie.Need-slice-aggregate-is-named
 slice-aggregate-is-named c = search needs
 
 is-named-requires : tie.Need-is-named-requires
-is-named-requires c κs = search needs
+is-named-requires c κs = tt
 
 returns : tie.Need-returns
 unfolding sideOf
@@ -19,7 +19,7 @@ slice-aggregate-is-named-2 : tie.Need-slice-aggregate-is-named-2
 slice-aggregate-is-named-2 c = search needs
 
 is-named-requires-2 : tie.Need-is-named-requires-2
-is-named-requires-2 c κs = search needs
+is-named-requires-2 c κs = tt
 
 returns-2 : tie.Need-returns-2
 unfolding sideOf

@@ -1,10 +1,10 @@
 -- `header::value::spaced` meets its contract.
+use native.Mathlib.Omega.{arith}
 use Rattle.header.proofs.Digits.{spaced-none}
 use Rattle.header.specs.Sides.{numberOf, spaced}
 use Rattle.rows.proofs.Lists.{part-rest}
 use borrow.Author.Tests.{eq-eqb, ne-eqb}
 use mathlib.Core.Path.{_∙_, ap}
-use borrow.Author.Needs.{needs}
 use Rattle.header.proofs.value.spaced.Statement.{statement}
 use Rattle.header.proofs.value.spaced.Tie as tie
 
@@ -12,19 +12,19 @@ returns : tie.Need-returns
 returns c = spaced-none _ (c .if1 .taken)
 
 shared-slice-read-if2 : tie.Need-shared-slice-read-if2
-shared-slice-read-if2 c = search needs
+shared-slice-read-if2 c = omega arith
 
 sub-number-of : tie.Need-sub-number-of
-sub-number-of c = search needs
+sub-number-of c = omega arith
 
 part-number-of-start : tie.Need-part-number-of-start
-part-number-of-start c = search needs
+part-number-of-start c = omega arith
 
 part-number-of-end : tie.Need-part-number-of-end
-part-number-of-end c = search needs
+part-number-of-end c = omega arith
 
 number-of-requires : tie.Need-number-of-requires
-number-of-requires c κs = search needs
+number-of-requires c κs = tt
 
 returns-2 : tie.Need-returns-2
 unfolding spaced

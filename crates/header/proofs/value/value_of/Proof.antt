@@ -1,10 +1,10 @@
 -- `header::value::value_of` meets its contract.
+use native.Mathlib.Omega.{arith}
 use Rattle.header.proofs.Digits.{value-none}
 use Rattle.header.specs.Sides.{spaced, valueOf}
 use Rattle.rows.proofs.Lists.{part-rest}
 use borrow.Author.Tests.{eq-eqb, ne-eqb}
 use mathlib.Core.Path.{_∙_, ap}
-use borrow.Author.Needs.{needs}
 use Rattle.header.proofs.value.value_of.Statement.{statement}
 use Rattle.header.proofs.value.value_of.Tie as tie
 
@@ -12,26 +12,26 @@ returns : tie.Need-returns
 returns c = value-none _ (c .if1 .taken)
 
 shared-slice-read-if2 : tie.Need-shared-slice-read-if2
-shared-slice-read-if2 c = search needs
+shared-slice-read-if2 c = omega arith
 
 sub-spaced : tie.Need-sub-spaced
-sub-spaced c = search needs
+sub-spaced c = omega arith
 
 part-spaced-start : tie.Need-part-spaced-start
-part-spaced-start c = search needs
+part-spaced-start c = omega arith
 
 part-spaced-end : tie.Need-part-spaced-end
-part-spaced-end c = search needs
+part-spaced-end c = omega arith
 
 spaced-requires : tie.Need-spaced-requires
-spaced-requires c κs = search needs
+spaced-requires c κs = tt
 
 returns-2 : tie.Need-returns-2
 unfolding valueOf
 returns-2 c = simp (eq-eqb _ _ (c .before .before .if2 .taken)) (c .spaced .ensures ∙ ap spaced (part-rest 1 (c .before .before .before .before .before .before .args .text .now)))
 
 spaced-requires-2 : tie.Need-spaced-requires-2
-spaced-requires-2 c κs = search needs
+spaced-requires-2 c κs = tt
 
 returns-3 : tie.Need-returns-3
 unfolding valueOf

@@ -21,13 +21,13 @@ there : (d : Good-place) → d .before .header2 .given .0 .0 ≤ length (file d)
 there d = data-within 2048 (lit< tt) (file d) (d .before .before .before .read .ensures) (d .before .header2 .given .1)
 
 read-requires : tie.Need-read-requires
-read-requires c κs = search needs
+read-requires c κs = tt
 
 enum-known-header : tie.Need-enum-known-header
-enum-known-header c = search needs
+enum-known-header c = c .match .keys1
 
 enum-known-header-2 : tie.Need-enum-known-header-2
-enum-known-header-2 c = search needs
+enum-known-header-2 c = c .match .keys2
 
 sub-read-words : tie.Need-sub-read-words
 sub-read-words c = omega (arith, there c)
@@ -36,16 +36,16 @@ part-read-words-start : tie.Need-part-read-words-start
 part-read-words-start c = omega (arith, there c)
 
 part-read-words-end : tie.Need-part-read-words-end
-part-read-words-end c = search needs
+part-read-words-end c = omega arith
 
 read-words-requires : tie.Need-read-words-requires
-read-words-requires c κs = search needs
+read-words-requires c κs = tt
 
 enum-known-reading : tie.Need-enum-known-reading
-enum-known-reading c = search needs
+enum-known-reading c = c .match2 .keys1
 
 enum-known-reading-2 : tie.Need-enum-known-reading-2
-enum-known-reading-2 c = search needs
+enum-known-reading-2 c = c .match2 .keys2
 
 add-t23 : tie.Need-add-t23
 add-t23 c = omega (arith, place-within _ _ _ (file (c .before .before .before .before .before .before .before .before)) _ _ (there (c .before .before .before .before .before .before .before .before)) (c .before .before .before .before .before .read-words .ensures) (c .before .reading2 .given .1))

@@ -5,34 +5,34 @@ use Rattle.rows.proofs.event.event_as.Statement.{statement}
 use Rattle.rows.proofs.event.event_as.Tie as tie
 
 enum-told : tie.Need-enum-told
-enum-told c = search needs
+enum-told c = c .match .keys1
 
 time-requires : tie.Need-time-requires
-time-requires c κs = search needs
+time-requires c κs = tt
 
 enum-told-2 : tie.Need-enum-told-2
-enum-told-2 c = search needs
+enum-told-2 c = c .match .keys2
 
 time-requires-2 : tie.Need-time-requires-2
-time-requires-2 c κs = search needs
+time-requires-2 c κs = tt
 
 enum-told-3 : tie.Need-enum-told-3
-enum-told-3 c = search needs
+enum-told-3 c = c .match .keys3
 
 counts-event-requires : tie.Need-counts-event-requires
 counts-event-requires c κs = rw (c .enum-told3 .given .1) at (c .before .before .pre)
 
 enum-told-4 : tie.Need-enum-told-4
-enum-told-4 c = search needs
+enum-told-4 c = c .match .keys4
 
 singles-event-requires : tie.Need-singles-event-requires
-singles-event-requires c κs = search needs
+singles-event-requires c κs = tt
 
 enum-told-5 : tie.Need-enum-told-5
-enum-told-5 c = search needs
+enum-told-5 c = c .match .keys5
 
 time-requires-3 : tie.Need-time-requires-3
-time-requires-3 c κs = search needs
+time-requires-3 c κs = tt
 
 cast-t11 : tie.Need-cast-t11
 cast-t11 c = search needs
@@ -47,13 +47,13 @@ add-t14 : tie.Need-add-t14
 add-t14 c = search needs
 
 enum-told-6 : tie.Need-enum-told-6
-enum-told-6 c = search needs
+enum-told-6 c = c .match .keys6
 
 time-requires-4 : tie.Need-time-requires-4
-time-requires-4 c κs = search needs
+time-requires-4 c κs = tt
 
 enum-told-7 : tie.Need-enum-told-7
-enum-told-7 c = search needs
+enum-told-7 c = c .match .keys7
 
 returns : tie.Need-returns
 unfolding eventAs

@@ -1,30 +1,29 @@
 -- `rows::event::event_numbers` meets its contract.
 use Rattle.rows.proofs.Shown.{numbers-bad, numbers-row, numbers-none}
 use mathlib.Core.Path.{_∙_, sym}
-use borrow.Author.Needs.{needs}
 use Rattle.rows.proofs.event.event_numbers.Statement.{statement}
 use Rattle.rows.proofs.event.event_numbers.Tie as tie
 
 refused-numbers-requires : tie.Need-refused-numbers-requires
-refused-numbers-requires c κs = search needs
+refused-numbers-requires c κs = tt
 
 returns : tie.Need-returns
 returns c = c .refused-numbers .ensures ∙ numbers-bad (c .before .before .before .args .numbers .now) (c .before .if1 .taken)
 
 get-requires : tie.Need-get-requires
-get-requires c κs = search needs
+get-requires c κs = tt
 
 enum-known-first : tie.Need-enum-known-first
-enum-known-first c = search needs
+enum-known-first c = c .match .keys1
 
 row-numbers-requires : tie.Need-row-numbers-requires
-row-numbers-requires c κs = search needs
+row-numbers-requires c κs = tt
 
 enum-told : tie.Need-enum-told
-enum-told c = search needs
+enum-told c = c .match .keys2
 
 refused-numbers-requires-2 : tie.Need-refused-numbers-requires-2
-refused-numbers-requires-2 c κs = search needs
+refused-numbers-requires-2 c κs = tt
 
 returns-2 : tie.Need-returns-2
 returns-2 c =

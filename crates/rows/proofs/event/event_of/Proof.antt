@@ -3,15 +3,14 @@ use Rattle.rows.proofs.Shown.{event-good}
 use mathlib.Core.Path.{_∙_, sym}
 use Rattle.rows.specs.Rules.{goodRow}
 use Rattle.rows.specs.Event.{eventOf}
-use borrow.Author.Needs.{needs}
 use Rattle.rows.proofs.event.event_of.Statement.{statement}
 use Rattle.rows.proofs.event.event_of.Tie as tie
 
 good-requires : tie.Need-good-requires
-good-requires c κs = search needs
+good-requires c κs = tt
 
 of-requires : tie.Need-of-requires
-of-requires c κs = search needs
+of-requires c κs = tt
 
 event-as-requires : tie.Need-event-as-requires
 unfolding goodRow

@@ -1,10 +1,9 @@
 -- `rows::event::refused_numbers` meets its contract.
-use borrow.Author.Needs.{needs}
 use Rattle.rows.proofs.event.refused_numbers.Statement.{statement}
 use Rattle.rows.proofs.event.refused_numbers.Tie as tie
 
 number-requires : tie.Need-number-requires
-number-requires c κs = search needs
+number-requires c κs = tt
 
 returns : tie.Need-returns
 returns c = rw (c .number .ensures)

@@ -6,25 +6,25 @@ use Rattle.rows.proofs.event.row_numbers.Statement.{statement}
 use Rattle.rows.proofs.event.row_numbers.Tie as tie
 
 event-of-requires : tie.Need-event-of-requires
-event-of-requires c κs = search needs
+event-of-requires c κs = tt
 
 enum-known-conversion : tie.Need-enum-known-conversion
-enum-known-conversion c = search needs
+enum-known-conversion c = c .match .keys1
 
 cast-t6 : tie.Need-cast-t6
 cast-t6 c = search needs
 
 time-requires : tie.Need-time-requires
-time-requires c κs = search needs
+time-requires c κs = tt
 
 readings-requires : tie.Need-readings-requires
-readings-requires c κs = search needs
+readings-requires c κs = tt
 
 enum-known-conversion-2 : tie.Need-enum-known-conversion-2
-enum-known-conversion-2 c = search needs
+enum-known-conversion-2 c = c .match .keys2
 
 refused-numbers-requires : tie.Need-refused-numbers-requires
-refused-numbers-requires c κs = search needs
+refused-numbers-requires c κs = tt
 
 returns : tie.Need-returns
 returns c =

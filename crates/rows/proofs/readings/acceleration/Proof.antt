@@ -2,12 +2,11 @@
 use Rattle.rows.specs.Readings.{accelerationOf}
 use lib.Ieee.{Float, binary32, ofBits, ofInt, div}
 use mathlib.Core.Path.{ap}
-use borrow.Author.Needs.{needs}
 use Rattle.rows.proofs.readings.acceleration.Statement.{statement}
 use Rattle.rows.proofs.readings.acceleration.Tie as tie
 
 signed-requires : tie.Need-signed-requires
-signed-requires c κs = search needs
+signed-requires c κs = tt
 
 returns : tie.Need-returns
 unfolding accelerationOf ofBits ofInt

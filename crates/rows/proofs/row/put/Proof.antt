@@ -6,7 +6,7 @@ use Rattle.rows.proofs.row.put.Statement.{statement}
 use Rattle.rows.proofs.row.put.Tie as tie
 
 room-requires : tie.Need-room-requires
-room-requires c κs = search needs
+room-requires c κs = tt
 
 mul-copy-to : tie.Need-mul-copy-to
 mul-copy-to c = search needs

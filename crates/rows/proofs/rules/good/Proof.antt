@@ -1,14 +1,13 @@
 -- `rows::rules::good` meets its contract.
 use Rattle.rows.specs.Rules.{goodRow}
-use borrow.Author.Needs.{needs}
 use Rattle.rows.proofs.rules.good.Statement.{statement}
 use Rattle.rows.proofs.rules.good.Tie as tie
 
 of-requires : tie.Need-of-requires
-of-requires c κs = search needs
+of-requires c κs = tt
 
 good-as-requires : tie.Need-good-as-requires
-good-as-requires c κs = search needs
+good-as-requires c κs = tt
 
 returns : tie.Need-returns
 unfolding goodRow

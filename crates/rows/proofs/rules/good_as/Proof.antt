@@ -1,47 +1,46 @@
 -- `rows::rules::good_as` meets its contract.
 use Rattle.rows.specs.Rules.{goodAs}
-use borrow.Author.Needs.{needs}
 use Rattle.rows.proofs.rules.good_as.Statement.{statement}
 use Rattle.rows.proofs.rules.good_as.Tie as tie
 
 enum-told : tie.Need-enum-told
-enum-told c = search needs
+enum-told c = c .match .keys1
 
 is-pixel-requires : tie.Need-is-pixel-requires
-is-pixel-requires c κs = search needs
+is-pixel-requires c κs = tt
 
 enum-told-2 : tie.Need-enum-told-2
-enum-told-2 c = search needs
+enum-told-2 c = c .match .keys2
 
 is-pair-requires : tie.Need-is-pair-requires
-is-pair-requires c κs = search needs
+is-pair-requires c κs = tt
 
 enum-told-3 : tie.Need-enum-told-3
-enum-told-3 c = search needs
+enum-told-3 c = c .match .keys3
 
 is-imu-counts-requires : tie.Need-is-imu-counts-requires
-is-imu-counts-requires c κs = search needs
+is-imu-counts-requires c κs = tt
 
 enum-told-4 : tie.Need-enum-told-4
-enum-told-4 c = search needs
+enum-told-4 c = c .match .keys4
 
 is-timely-requires : tie.Need-is-timely-requires
-is-timely-requires c κs = search needs
+is-timely-requires c κs = tt
 
 enum-told-5 : tie.Need-enum-told-5
-enum-told-5 c = search needs
+enum-told-5 c = c .match .keys5
 
 is-usb-packet-requires : tie.Need-is-usb-packet-requires
-is-usb-packet-requires c κs = search needs
+is-usb-packet-requires c κs = tt
 
 enum-told-6 : tie.Need-enum-told-6
-enum-told-6 c = search needs
+enum-told-6 c = c .match .keys6
 
 is-pair-requires-2 : tie.Need-is-pair-requires-2
-is-pair-requires-2 c κs = search needs
+is-pair-requires-2 c κs = tt
 
 enum-told-7 : tie.Need-enum-told-7
-enum-told-7 c = search needs
+enum-told-7 c = c .match .keys7
 
 returns : tie.Need-returns
 unfolding goodAs

@@ -2,19 +2,18 @@
 use Rattle.rows.specs.Rules.{goodAs}
 use Rattle.rows.proofs.Answered.{answered-no, answered-yes}
 use mathlib.Core.Path.{_∙_}
-use borrow.Author.Needs.{needs}
 use Rattle.rows.proofs.rules.is_imu_counts.Statement.{statement}
 use Rattle.rows.proofs.rules.is_imu_counts.Tie as tie
 
 is-timely-requires : tie.Need-is-timely-requires
-is-timely-requires c κs = search needs
+is-timely-requires c κs = tt
 
 returns : tie.Need-returns
 unfolding goodAs
 returns c = simp (answered-no (c .before .is-timely .ensures) (c .if1 .taken))
 
 are-below-requires : tie.Need-are-below-requires
-are-below-requires c κs = search needs
+are-below-requires c κs = tt
 
 returns-2 : tie.Need-returns-2
 unfolding goodAs
@@ -23,7 +22,7 @@ returns-2 c =
     simp (answered-yes (first .before .is-timely .ensures) (first .if1 .left), answered-no (c .before .are-below .ensures) (c .if2 .taken))
 
 are-unused-requires : tie.Need-are-unused-requires
-are-unused-requires c κs = search needs
+are-unused-requires c κs = tt
 
 returns-3 : tie.Need-returns-3
 unfolding goodAs

@@ -2,12 +2,11 @@
 use Rattle.rows.proofs.Answered.{answered-no, answered-yes}
 use borrow.Author.Tests.{lt-ltb, le-ltb}
 use mathlib.Core.Path.{_∙_}
-use borrow.Author.Needs.{needs}
 use Rattle.rows.proofs.rules.is_pair.Statement.{statement}
 use Rattle.rows.proofs.rules.is_pair.Tie as tie
 
 is-timely-requires : tie.Need-is-timely-requires
-is-timely-requires c κs = search needs
+is-timely-requires c κs = tt
 
 returns : tie.Need-returns
 returns c = simp (answered-no (c .before .is-timely .ensures) (c .if1 .taken))
@@ -24,7 +23,7 @@ returns-3 c =
     simp (answered-yes (first .before .is-timely .ensures) (first .if1 .left), lt-ltb _ _ (second .if2 .left), le-ltb _ _ (c .if3 .taken))
 
 are-unused-requires : tie.Need-are-unused-requires
-are-unused-requires c κs = search needs
+are-unused-requires c κs = tt
 
 returns-4 : tie.Need-returns-4
 returns-4 c =

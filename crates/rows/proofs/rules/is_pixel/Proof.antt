@@ -3,19 +3,18 @@ use Rattle.rows.proofs.Answered.{answered-no, answered-yes}
 use Rattle.rows.specs.Rules.{goodAs}
 use borrow.Author.Tests.{lt-ltb, le-ltb}
 use mathlib.Core.Path.{_∙_}
-use borrow.Author.Needs.{needs}
 use Rattle.rows.proofs.rules.is_pixel.Statement.{statement}
 use Rattle.rows.proofs.rules.is_pixel.Tie as tie
 
 is-timely-requires : tie.Need-is-timely-requires
-is-timely-requires c κs = search needs
+is-timely-requires c κs = tt
 
 returns : tie.Need-returns
 unfolding goodAs
 returns c = simp (answered-no (c .before .is-timely .ensures) (c .if1 .taken))
 
 are-below-requires : tie.Need-are-below-requires
-are-below-requires c κs = search needs
+are-below-requires c κs = tt
 
 returns-2 : tie.Need-returns-2
 unfolding goodAs
@@ -31,7 +30,7 @@ returns-3 c =
     simp (answered-yes (first .before .is-timely .ensures) (first .if1 .left), answered-yes (second .before .are-below .ensures) (second .if2 .left), le-ltb _ _ (c .if3 .taken))
 
 are-unused-requires : tie.Need-are-unused-requires
-are-unused-requires c κs = search needs
+are-unused-requires c κs = tt
 
 returns-4 : tie.Need-returns-4
 unfolding goodAs

@@ -1,10 +1,9 @@
 -- `rows::rules::is_timely` meets its contract.
-use borrow.Author.Needs.{needs}
 use Rattle.rows.proofs.rules.is_timely.Statement.{statement}
 use Rattle.rows.proofs.rules.is_timely.Tie as tie
 
 time-requires : tie.Need-time-requires
-time-requires c κs = search needs
+time-requires c κs = tt
 
 returns : tie.Need-returns
 returns c = rw (c .time .ensures)

@@ -5,12 +5,11 @@ use borrow.Author.Tests.{lt-ltb, le-ltb, eq-eqb, ne-eqb}
 use Rattle.rows.specs.Rules.{goodAs}
 use borrow.Author.Tests.{lt-ltb, le-ltb, eq-eqb, ne-eqb}
 use mathlib.Core.Path.{_∙_}
-use borrow.Author.Needs.{needs}
 use Rattle.rows.proofs.rules.is_usb_packet.Statement.{statement}
 use Rattle.rows.proofs.rules.is_usb_packet.Tie as tie
 
 time-requires : tie.Need-time-requires
-time-requires c κs = search needs
+time-requires c κs = tt
 
 returns : tie.Need-returns
 unfolding goodAs
@@ -23,7 +22,7 @@ returns-2 c =
     simp (eq-eqb _ _ (sym (first .before .time .ensures) ∙ first .if1 .left), le-ltb _ _ (c .if2 .taken))
 
 are-unused-requires : tie.Need-are-unused-requires
-are-unused-requires c κs = search needs
+are-unused-requires c κs = tt
 
 returns-3 : tie.Need-returns-3
 unfolding goodAs

@@ -3,12 +3,11 @@ use Rattle.rows.proofs.Answered.{answered-no, answered-yes}
 use Rattle.rows.specs.Rules.{judgedAs}
 use borrow.Author.Tests.{not-true, not-false}
 use Rattle.rows.proofs.Judged.{judged-back, judged-time}
-use borrow.Author.Needs.{needs}
 use Rattle.rows.proofs.rules.judge.Statement.{statement}
 use Rattle.rows.proofs.rules.judge.Tie as tie
 
 good-as-requires : tie.Need-good-as-requires
-good-as-requires c κs = search needs
+good-as-requires c κs = tt
 
 returns : tie.Need-returns
 unfolding judgedAs
@@ -19,7 +18,7 @@ unfolding judgedAs
 returns-2 c = simp (answered-yes (c .before .before .good-as .ensures) (c .before .if1 .left), not-true (c .before .before .before .args .writable) (c .if2 .taken))
 
 time-requires : tie.Need-time-requires
-time-requires c κs = search needs
+time-requires c κs = tt
 
 returns-3 : tie.Need-returns-3
 unfolding judgedAs

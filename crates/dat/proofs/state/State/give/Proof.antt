@@ -1,4 +1,5 @@
 -- `dat::state::State::give` meets its contract.
+use native.Mathlib.Omega.{arith}
 use Rattle.words.proofs.Wrote.{gave-refused, gave-row}
 use Rattle.dat.specs.Words.{eventOf}
 use borrow.Author.Tests.{lt-ltb, le-ltb, le-leb, lt-leb}
@@ -8,29 +9,29 @@ use Rattle.dat.proofs.state.State.give.Statement.{statement}
 use Rattle.dat.proofs.state.State.give.Tie as tie
 
 cast-if1 : tie.Need-cast-if1
-cast-if1 c = search needs
+cast-if1 c = omega arith
 
 returns : tie.Need-returns
 unfolding eventOf
 returns c = simp (lt-ltb _ _ (c .if1 .taken)) (gave-refused _ _ _)
 
 cast-x : tie.Need-cast-x
-cast-x c = search needs
+cast-x c = omega arith
 
 cast-y : tie.Need-cast-y
-cast-y c = search needs
+cast-y c = omega arith
 
 holds-requires : tie.Need-holds-requires
-holds-requires c κs = search needs
+holds-requires c κs = tt
 
 cast-polarity : tie.Need-cast-polarity
-cast-polarity c = search needs
+cast-polarity c = omega arith
 
 pixel-requires : tie.Need-pixel-requires
-pixel-requires c κs = search needs
+pixel-requires c κs = tt
 
 give-requires : tie.Need-give-requires
-give-requires c κs = search needs
+give-requires c κs = tt
 
 same-length : tie.Need-same-length
 same-length c = search needs

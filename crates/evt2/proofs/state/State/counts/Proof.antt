@@ -1,33 +1,32 @@
 -- `evt2::state::State::counts` meets its contract.
 use mathlib.Core.Path.{sym, _∙_}
 use Rattle.evt2.specs.Words.{countsOf}
-use borrow.Author.Needs.{needs}
 use Rattle.evt2.proofs.state.State.counts.Statement.{statement}
 use Rattle.evt2.proofs.state.State.counts.Tie as tie
 
 time-at-requires : tie.Need-time-at-requires
-time-at-requires c κs = search needs
+time-at-requires c κs = tt
 
 count-of-requires : tie.Need-count-of-requires
-count-of-requires c κs = search needs
+count-of-requires c κs = tt
 
 count-of-requires-2 : tie.Need-count-of-requires-2
-count-of-requires-2 c κs = search needs
+count-of-requires-2 c κs = tt
 
 count-of-requires-3 : tie.Need-count-of-requires-3
-count-of-requires-3 c κs = search needs
+count-of-requires-3 c κs = tt
 
 count-of-requires-4 : tie.Need-count-of-requires-4
-count-of-requires-4 c κs = search needs
+count-of-requires-4 c κs = tt
 
 count-of-requires-5 : tie.Need-count-of-requires-5
-count-of-requires-5 c κs = search needs
+count-of-requires-5 c κs = tt
 
 count-of-requires-6 : tie.Need-count-of-requires-6
-count-of-requires-6 c κs = search needs
+count-of-requires-6 c κs = tt
 
 imu-counts-requires : tie.Need-imu-counts-requires
-imu-counts-requires c κs = search needs
+imu-counts-requires c κs = tt
 
 returns : tie.Need-returns
 unfolding countsOf

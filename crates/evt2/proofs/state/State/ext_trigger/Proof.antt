@@ -7,7 +7,7 @@ use Rattle.evt2.proofs.state.State.ext_trigger.Statement.{statement}
 use Rattle.evt2.proofs.state.State.ext_trigger.Tie as tie
 
 time-at-requires : tie.Need-time-at-requires
-time-at-requires c κs = search needs
+time-at-requires c κs = tt
 
 cast-trigger : tie.Need-cast-trigger
 cast-trigger c = search needs
@@ -16,10 +16,10 @@ cast-trigger-2 : tie.Need-cast-trigger-2
 cast-trigger-2 c = search needs
 
 trigger-requires : tie.Need-trigger-requires
-trigger-requires c κs = search needs
+trigger-requires c κs = tt
 
 give-requires : tie.Need-give-requires
-give-requires c κs = search needs
+give-requires c κs = tt
 
 same-length : tie.Need-same-length
 same-length c = search needs

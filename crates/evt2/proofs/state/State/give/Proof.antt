@@ -6,40 +6,40 @@ use Rattle.evt2.proofs.state.State.give.Statement.{statement}
 use Rattle.evt2.proofs.state.State.give.Tie as tie
 
 enum-told : tie.Need-enum-told
-enum-told c = search needs
+enum-told c = c .match .keys1
 
 cd-requires : tie.Need-cd-requires
 cd-requires c κs = search needs
 
 enum-told-2 : tie.Need-enum-told-2
-enum-told-2 c = search needs
+enum-told-2 c = c .match .keys2
 
 goes-back-requires : tie.Need-goes-back-requires
-goes-back-requires c κs = search needs
+goes-back-requires c κs = tt
 
 returns : tie.Need-returns
 returns c = rw (c .before .before .enum-told2 .given .1, sym (c .before .goes-back .ensures) ∙ c .if1 .taken) (gave-refused _ _ _)
 
 enum-told-3 : tie.Need-enum-told-3
-enum-told-3 c = search needs
+enum-told-3 c = c .match .keys3
 
 ext-trigger-requires : tie.Need-ext-trigger-requires
 ext-trigger-requires c κs = search needs
 
 enum-told-4 : tie.Need-enum-told-4
-enum-told-4 c = search needs
+enum-told-4 c = c .match .keys4
 
 enum-told-5 : tie.Need-enum-told-5
-enum-told-5 c = search needs
+enum-told-5 c = c .match .keys5
 
 enum-told-6 : tie.Need-enum-told-6
-enum-told-6 c = search needs
+enum-told-6 c = c .match .keys6
 
 enum-told-7 : tie.Need-enum-told-7
-enum-told-7 c = search needs
+enum-told-7 c = c .match .keys7
 
 enum-told-8 : tie.Need-enum-told-8
-enum-told-8 c = search needs
+enum-told-8 c = c .match .keys8
 
 inside-requires : tie.Need-inside-requires
 inside-requires c κs = search needs

@@ -7,10 +7,10 @@ use Rattle.evt2.proofs.state.State.inside.Statement.{statement}
 use Rattle.evt2.proofs.state.State.inside.Tie as tie
 
 group-row-requires : tie.Need-group-row-requires
-group-row-requires c κs = search needs
+group-row-requires c κs = tt
 
 give-requires : tie.Need-give-requires
-give-requires c κs = search needs
+give-requires c κs = tt
 
 same-length : tie.Need-same-length
 same-length c = search needs

@@ -12,7 +12,7 @@ cast-pixel-2 : tie.Need-cast-pixel-2
 cast-pixel-2 c = search needs
 
 pixel-requires : tie.Need-pixel-requires
-pixel-requires c κs = search needs
+pixel-requires c κs = tt
 
 same-length : tie.Need-same-length
 same-length c = search needs

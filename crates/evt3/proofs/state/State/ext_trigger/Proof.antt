@@ -12,10 +12,10 @@ cast-trigger-2 : tie.Need-cast-trigger-2
 cast-trigger-2 c = search needs
 
 trigger-requires : tie.Need-trigger-requires
-trigger-requires c κs = search needs
+trigger-requires c κs = tt
 
 give-requires : tie.Need-give-requires
-give-requires c κs = search needs
+give-requires c κs = tt
 
 same-length : tie.Need-same-length
 same-length c = search needs

@@ -8,61 +8,61 @@ use Rattle.evt3.proofs.state.State.give.Statement.{statement}
 use Rattle.evt3.proofs.state.State.give.Tie as tie
 
 enum-told : tie.Need-enum-told
-enum-told c = search needs
+enum-told c = c .match .keys1
 
 returns : tie.Need-returns
 returns c = rw (c .before .enum-told .given .1, eq-eqb _ _ (c .if1 .taken)) (gave-refused _ _ _)
 
 enum-told-2 : tie.Need-enum-told-2
-enum-told-2 c = search needs
+enum-told-2 c = c .match .keys2
 
 addr-x-requires : tie.Need-addr-x-requires
 addr-x-requires c κs = search needs
 
 enum-told-3 : tie.Need-enum-told-3
-enum-told-3 c = search needs
+enum-told-3 c = c .match .keys3
 
 enum-told-4 : tie.Need-enum-told-4
-enum-told-4 c = search needs
+enum-told-4 c = c .match .keys4
 
 vector-requires : tie.Need-vector-requires
 vector-requires c κs = record { small = omega arith; fits = c .before .before .before .before .pre }
 
 enum-told-5 : tie.Need-enum-told-5
-enum-told-5 c = search needs
+enum-told-5 c = c .match .keys5
 
 vector-requires-2 : tie.Need-vector-requires-2
 vector-requires-2 c κs = record { small = omega arith; fits = c .before .before .before .before .pre }
 
 enum-told-6 : tie.Need-enum-told-6
-enum-told-6 c = search needs
+enum-told-6 c = c .match .keys6
 
 enum-told-7 : tie.Need-enum-told-7
-enum-told-7 c = search needs
+enum-told-7 c = c .match .keys7
 
 enum-told-8 : tie.Need-enum-told-8
-enum-told-8 c = search needs
+enum-told-8 c = c .match .keys8
 
 past-limit-requires : tie.Need-past-limit-requires
-past-limit-requires c κs = search needs
+past-limit-requires c κs = tt
 
 returns-2 : tie.Need-returns-2
 returns-2 c = rw (c .before .before .enum-told8 .given .1, sym (c .before .past-limit .ensures) ∙ c .if2 .taken) (gave-refused _ _ _)
 
 enum-told-9 : tie.Need-enum-told-9
-enum-told-9 c = search needs
+enum-told-9 c = c .match .keys9
 
 ext-trigger-requires : tie.Need-ext-trigger-requires
 ext-trigger-requires c κs = search needs
 
 enum-told-10 : tie.Need-enum-told-10
-enum-told-10 c = search needs
+enum-told-10 c = c .match .keys10
 
 enum-told-11 : tie.Need-enum-told-11
-enum-told-11 c = search needs
+enum-told-11 c = c .match .keys11
 
 enum-told-12 : tie.Need-enum-told-12
-enum-told-12 c = search needs
+enum-told-12 c = c .match .keys12
 
 returns-3 : tie.Need-returns-3
 returns-3 c = rw (c .before .enum-told .given .1, ne-eqb _ _ (c .if1 .left)) (gave-none _ _ (c .before .before .before .before .pre))

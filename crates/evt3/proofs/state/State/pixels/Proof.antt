@@ -10,13 +10,13 @@ count-pixels-requires : tie.Need-count-pixels-requires
 count-pixels-requires c κs = c .before .pre .small
 
 enum-told : tie.Need-enum-told
-enum-told c = search needs
+enum-told c = c .match .keys1
 
 enum-known-counted : tie.Need-enum-known-counted
-enum-known-counted c = search needs
+enum-known-counted c = c .match .keys2
 
 room-requires : tie.Need-room-requires
-room-requires c κs = search needs
+room-requires c κs = tt
 
 sub-if1 : tie.Need-sub-if1
 sub-if1 c = search needs

@@ -1,16 +1,15 @@
 -- `header::reader::Header::numbers` meets its contract.
-use borrow.Author.Needs.{needs}
 use Rattle.header.proofs.reader.Header.numbers.Statement.{statement}
 use Rattle.header.proofs.reader.Header.numbers.Tie as tie
 
 enum-known-self : tie.Need-enum-known-self
-enum-known-self c = search needs
+enum-known-self c = c .match .keys1
 
 enum-known-self-2 : tie.Need-enum-known-self-2
-enum-known-self-2 c = search needs
+enum-known-self-2 c = c .match .keys2
 
 number-requires : tie.Need-number-requires
-number-requires c κs = search needs
+number-requires c κs = tt
 
 returns : tie.Need-returns
 returns c = rw (c .before .self .given .1)

@@ -2,21 +2,20 @@
 use Rattle.header.proofs.Keywords.{keyword-in, keyword-taken}
 use Rattle.header.proofs.Lines.{judged-width, judged-height, judged-other}
 use native.Mathlib.Omega.{arith}
-use borrow.Author.Needs.{needs}
 use Rattle.header.proofs.side.Sides.judge.Statement.{statement}
 use Rattle.header.proofs.side.Sides.judge.Tie as tie
 
 keyword-length-requires : tie.Need-keyword-length-requires
-keyword-length-requires c κs = search needs
+keyword-length-requires c κs = tt
 
 slice-aggregate-side-of : tie.Need-slice-aggregate-side-of
 slice-aggregate-side-of c = keyword-taken (c .before .before .before .args .text .now) (c .before .keyword-length .ensures)
 
 side-of-requires : tie.Need-side-of-requires
-side-of-requires c κs = search needs
+side-of-requires c κs = tt
 
 enum-told : tie.Need-enum-told
-enum-told c = search needs
+enum-told c = c .match .keys1
 
 sub-value-of : tie.Need-sub-value-of
 sub-value-of c = omega (arith, keyword-in (c .before .before .before .before .before .before .args .text .now), c .before .before .before .before .keyword-length .ensures)
@@ -25,16 +24,16 @@ part-value-of-start : tie.Need-part-value-of-start
 part-value-of-start c = omega (arith, keyword-in (c .before .before .before .before .before .before .args .text .now), c .before .before .before .before .keyword-length .ensures)
 
 part-value-of-end : tie.Need-part-value-of-end
-part-value-of-end c = search needs
+part-value-of-end c = omega arith
 
 value-of-requires : tie.Need-value-of-requires
-value-of-requires c κs = search needs
+value-of-requires c κs = tt
 
 with-width-requires : tie.Need-with-width-requires
-with-width-requires c κs = search needs
+with-width-requires c κs = tt
 
 enum-told-2 : tie.Need-enum-told-2
-enum-told-2 c = search needs
+enum-told-2 c = c .match .keys2
 
 sub-value-of-2 : tie.Need-sub-value-of-2
 sub-value-of-2 c = omega (arith, keyword-in (c .before .before .before .before .before .before .args .text .now), c .before .before .before .before .keyword-length .ensures)
@@ -43,16 +42,16 @@ part-value-of-start-2 : tie.Need-part-value-of-start-2
 part-value-of-start-2 c = omega (arith, keyword-in (c .before .before .before .before .before .before .args .text .now), c .before .before .before .before .keyword-length .ensures)
 
 part-value-of-end-2 : tie.Need-part-value-of-end-2
-part-value-of-end-2 c = search needs
+part-value-of-end-2 c = omega arith
 
 value-of-requires-2 : tie.Need-value-of-requires-2
-value-of-requires-2 c κs = search needs
+value-of-requires-2 c κs = tt
 
 with-height-requires : tie.Need-with-height-requires
-with-height-requires c κs = search needs
+with-height-requires c κs = tt
 
 enum-told-3 : tie.Need-enum-told-3
-enum-told-3 c = search needs
+enum-told-3 c = c .match .keys3
 
 returns : tie.Need-returns
 returns c = judged-width _ _ _ (c .before .before .before .before .before .before .before .keyword-length .ensures) (c .before .before .before .before .before .side-of .ensures) (c .before .value-of .ensures) (c .before .before .before .enum-told .given .1) (c .with-width .ensures)

@@ -5,16 +5,16 @@ use Rattle.header.proofs.side.Sides.with_width.Statement.{statement}
 use Rattle.header.proofs.side.Sides.with_width.Tie as tie
 
 enum-known-value : tie.Need-enum-known-value
-enum-known-value c = search needs
+enum-known-value c = c .match .keys1
 
 may-be-requires : tie.Need-may-be-requires
-may-be-requires c κs = search needs
+may-be-requires c κs = tt
 
 returns : tie.Need-returns
 returns c = simp (c .before .before .before .value .given .1, sym (c .before .may-be .ensures) ∙ c .if1 .taken)
 
 enum-told : tie.Need-enum-told
-enum-told c = search needs
+enum-told c = c .match .keys2
 
 returns-2 : tie.Need-returns-2
 returns-2 c = simp (c .before .before .before .value .given .1, sym (c .before .may-be .ensures) ∙ c .if1 .left)

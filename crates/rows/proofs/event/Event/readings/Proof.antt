@@ -1,25 +1,24 @@
 -- `rows::event::Event::readings` meets its contract.
-use borrow.Author.Needs.{needs}
 use Rattle.rows.proofs.event.Event.readings.Statement.{statement}
 use Rattle.rows.proofs.event.Event.readings.Tie as tie
 
 enum-told : tie.Need-enum-told
-enum-told c = search needs
+enum-told c = c .match .keys1
 
 enum-told-2 : tie.Need-enum-told-2
-enum-told-2 c = search needs
+enum-told-2 c = c .match .keys2
 
 enum-known-self : tie.Need-enum-known-self
-enum-known-self c = search needs
+enum-known-self c = c .match .keys3
 
 enum-known-self-2 : tie.Need-enum-known-self-2
-enum-known-self-2 c = search needs
+enum-known-self-2 c = c .match .keys4
 
 enum-told-3 : tie.Need-enum-told-3
-enum-told-3 c = search needs
+enum-told-3 c = c .match .keys5
 
 enum-told-4 : tie.Need-enum-told-4
-enum-told-4 c = search needs
+enum-told-4 c = c .match .keys6
 
 returns : tie.Need-returns
 returns c = rw (c .enum-told .given .1)

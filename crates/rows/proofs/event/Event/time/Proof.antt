@@ -1,25 +1,24 @@
 -- `rows::event::Event::time` meets its contract.
-use borrow.Author.Needs.{needs}
 use Rattle.rows.proofs.event.Event.time.Statement.{statement}
 use Rattle.rows.proofs.event.Event.time.Tie as tie
 
 enum-known-self : tie.Need-enum-known-self
-enum-known-self c = search needs
+enum-known-self c = c .match .keys1
 
 enum-known-self-2 : tie.Need-enum-known-self-2
-enum-known-self-2 c = search needs
+enum-known-self-2 c = c .match .keys2
 
 enum-known-self-3 : tie.Need-enum-known-self-3
-enum-known-self-3 c = search needs
+enum-known-self-3 c = c .match .keys3
 
 enum-known-self-4 : tie.Need-enum-known-self-4
-enum-known-self-4 c = search needs
+enum-known-self-4 c = c .match .keys4
 
 enum-known-self-5 : tie.Need-enum-known-self-5
-enum-known-self-5 c = search needs
+enum-known-self-5 c = c .match .keys5
 
 enum-known-self-6 : tie.Need-enum-known-self-6
-enum-known-self-6 c = search needs
+enum-known-self-6 c = c .match .keys6
 
 returns : tie.Need-returns
 returns c = rw (c .before .self .given .1)

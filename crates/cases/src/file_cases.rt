@@ -35,7 +35,8 @@ fn long_lines() {
     header(b"256 bytes without one:", &endless, 2048);
 }
 
-pub(crate) fn headers() {
+// What is a line of the header, and what other lines hold.
+fn lines() {
     header(b"header, empty:", b"", 2048);
     header(b"a percent sign alone:", b"%", 2048);
     header(b"no line:", b"%width 5\n", 2048);
@@ -49,10 +50,13 @@ pub(crate) fn headers() {
         b"% Date 2020-03-05 11:35:05\n% widths 5\n% width,640\n% width.640\n% width\t640\n%  width 640\n",
         2048,
     );
+}
+
+// How a value is written.
+fn values() {
     header(b"a comma:", b"% date x\n% width 12,5\n", 2048);
     header(b"a point:", b"% height 6.4\n", 2048);
     header(b"a comma at the end:", b"% height 64,\n", 2048);
-    header(b"width twice:", b"% width 5\n% width 5\n", 2048);
     header(b"no number:", b"% width\n", 2048);
     header(b"no digit:", b"% width: \n", 2048);
     header(b"a colon without a space:", b"% width:640\n", 2048);
@@ -60,6 +64,11 @@ pub(crate) fn headers() {
     header(b"two colons:", b"% width:: 640\n", 2048);
     header(b"two spaces:", b"% width  640\n", 2048);
     header(b"carriage return:", b"% width 640\r\n", 2048);
+}
+
+// Which values are taken.
+fn limits() {
+    header(b"width twice:", b"% width 5\n% width 5\n", 2048);
     header(b"leading zeros:", b"% width 00064\n", 2048);
     header(b"six digits:", b"% width 000064\n", 2048);
     header(b"width 0:", b"% width 0\n", 2048);
@@ -67,9 +76,20 @@ pub(crate) fn headers() {
     header(b"over the limit:", b"% width 2049\n", 2048);
     header(b"at the limit of DAT:", b"% width 16384\n", 16384);
     header(b"over the limit of DAT:", b"% width 16385\n", 16384);
+}
+
+// Lines that the input ends within.
+fn cut_lines() {
     header(b"a cut line:", b"% width 640\n% height 480", 2048);
     header(b"a cut line with a comma:", b"% width 6,4", 2048);
     header(b"a bad line before a cut one:", b"% width 6,4\n% he", 2048);
+}
+
+pub(crate) fn headers() {
+    lines();
+    values();
+    limits();
+    cut_lines();
     long_lines();
 }
 
@@ -124,12 +144,17 @@ fn read_dat(name: &[u8], bytes: &[u8]) {
     reading(name, answer, &buffer);
 }
 
-pub(crate) fn dats() {
+// The two bytes after the header.
+fn types_and_sizes() {
     read_dat(b"dat empty:", b"");
     read_dat(b"one byte:", b"\x00");
     read_dat(b"type and size:", b"\x00\x08");
     read_dat(b"another type:", b"\x0c\x08");
     read_dat(b"another size:", b"\x00\x09");
+}
+
+// Events without a header.
+fn events() {
     // 64 00 00 00 05 C0 00 10
     read_dat(b"one pixel:", b"\x00\x08\x64\x00\x00\x00\x05\xc0\x00\x10");
     read_dat(
@@ -144,7 +169,15 @@ pub(crate) fn dats() {
         b"an earlier time:",
         b"\x00\x08\x64\x00\x00\x00\x05\xc0\x00\x10\x63\x00\x00\x00\x06\xc0\x00\x20",
     );
+    read_dat(
+        b"no room for the fourth:",
+        b"\x00\x08\x64\x00\x00\x00\x05\xc0\x00\x10\x65\x00\x00\x00\x05\xc0\x00\x10\x66\x00\x00\x00\x05\xc0\x00\x10\x67\x00\x00\x00\x05\xc0\x00\x10",
+    );
     read_dat(b"polarity 2:", b"\x00\x08\x64\x00\x00\x00\x05\xc0\x00\x20");
+}
+
+// Events after one.
+fn events_in_pictures() {
     read_dat(
         b"in six columns and four lines:",
         b"% Width: 6\n% Height 4\n\x00\x08\x64\x00\x00\x00\x05\xc0\x00\x10",
@@ -159,8 +192,10 @@ pub(crate) fn dats() {
     );
     read_dat(b"a header, and one byte:", b"% Width: 6\n\x00");
     read_dat(b"a header, and a wrong size:", b"% Width: 6\n\x00\x09");
-    read_dat(
-        b"no room for the fourth:",
-        b"\x00\x08\x64\x00\x00\x00\x05\xc0\x00\x10\x65\x00\x00\x00\x05\xc0\x00\x10\x66\x00\x00\x00\x05\xc0\x00\x10\x67\x00\x00\x00\x05\xc0\x00\x10",
-    );
+}
+
+pub(crate) fn dats() {
+    types_and_sizes();
+    events();
+    events_in_pictures();
 }

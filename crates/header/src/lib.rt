@@ -17,6 +17,8 @@ mod reader;
 mod side;
 mod value;
 
+pub use line::Line;
+pub use line::line_end;
 pub use reader::Header;
 pub use reader::HeaderNumbers;
 pub use reader::read;

@@ -3,7 +3,7 @@ ghost use mathlib.Core.Path.{_≡_};
 ghost use Rattle.header.specs.Lines.{isLine, lineEnd};
 
 // Where a line's newline stands, counted from its first byte; or the input ends before it; or it is too far away.
-pub(crate) enum Line {
+pub enum Line {
     Ends(usize),
     Cut,
     Endless,
@@ -22,12 +22,12 @@ pub(crate) fn is_line(bytes: &[u8]) -> bool
     false
 }
 
-// The end of the line at the front: the first newline among its first 256 bytes.
-pub(crate) fn line_end(bytes: &[u8]) -> Line
-    ensures { λ r. ⌜ r ≡ lineEnd 256 (now (bytes .entry)) 0 ⌝ }
+// The end of the line at the front: the first newline among its first `most` bytes.
+pub fn line_end(bytes: &[u8], most: usize) -> Line
+    ensures { λ r. ⌜ r ≡ lineEnd most (now (bytes .entry)) 0 ⌝ }
 {
     let mut i: usize = 0;
-    while i < 256 {
+    while i < most {
         if bytes.len() <= i {
             return Line::Cut;
         }

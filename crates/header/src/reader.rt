@@ -36,7 +36,7 @@ fn read_line(bytes: &[u8], limit: u32, sides: Sides) -> Step
     ensures { λ r. ⌜ r ≡ stepOf limit (now (bytes .entry)) sides ⌝ }
 {
     if is_line(bytes) {
-        let line = line_end(bytes);
+        let line = line_end(bytes, 256);
         match line {
             Line::Cut => Step::Stop(Fault::Cut),
             Line::Endless => Step::Stop(Fault::BadHeader),

@@ -6,6 +6,7 @@
 //
 //     first16(bytes), first32, first64     the word at the front of a slice, a part of one, or the end
 //     at16(bytes, at), at32, at64          the same at a place; past the end is the end
+//     word16(a, b), word32, word64         the number that bytes make
 //     put(out, at, word, size)             a word's bytes into a lent slice; where they do not fit nothing is touched
 //     give(rows, n, row)                   a word's row into a lent slice, after the n that are there
 //     admit(bytes, picture)                refusals 1 and 14, which come before the first word
@@ -54,19 +55,20 @@ pub fn give(rows: &mut [u32], n: usize, row: Row) -> Gave
     Gave::Full
 }
 
-fn word16(a: u8, b: u8) -> u64
+// The number that two bytes make; four; eight.
+pub fn word16(a: u8, b: u8) -> u64
     ensures { λ r. ⌜ r ≡ value (a ∷ b ∷ []) ⌝ }
 {
     a as u64 + 256 * b as u64
 }
 
-fn word32(a: u8, b: u8, c: u8, d: u8) -> u64
+pub fn word32(a: u8, b: u8, c: u8, d: u8) -> u64
     ensures { λ r. ⌜ r ≡ value (a ∷ b ∷ c ∷ d ∷ []) ⌝ }
 {
     a as u64 + 256 * (b as u64 + 256 * (c as u64 + 256 * d as u64))
 }
 
-fn word64(a: u8, b: u8, c: u8, d: u8, e: u8, f: u8, g: u8, h: u8) -> u64
+pub fn word64(a: u8, b: u8, c: u8, d: u8, e: u8, f: u8, g: u8, h: u8) -> u64
     ensures { λ r. ⌜ r ≡ value (a ∷ b ∷ c ∷ d ∷ e ∷ f ∷ g ∷ h ∷ []) ⌝ }
 {
     let low = word32(a, b, c, d);

@@ -4,6 +4,8 @@ use Rattle.dat.specs.Reader.{machine}
 use Rattle.dat.specs.Words.{fresh}
 use Rattle.words.proofs.Wrote.{gave-length}
 use Rattle.words.proofs.Between.{Between, between-start, between-length, between-room, found, ends-whole, ends-part, word-in, goes-on-gave, ends-gave-full, ends-gave}
+use Rattle.rows.specs.Row.{roomOf}
+use Rattle.words.specs.Machine.{readFrom}
 use Rattle.words.specs.Words.{nextAt}
 use Rattle.words.specs.declared.Next.the-variants.{Word}
 use lib.Dec.{lit<}
@@ -16,7 +18,7 @@ use Rattle.dat.proofs.reader.read_events.Statement.{statement}
 use Rattle.dat.proofs.reader.read_events.Tie as tie
 
 abbrev Inv-loop : tie.InvT-loop
-Inv-loop bytes from picture rows₀ state₀ at₀ n₀ rows state at n = Between (machine picture) bytes fresh from rows₀ state at n rows
+Inv-loop bytes from picture rows₀ state₀ at₀ n₀ rows state at n = Between (machine picture) bytes (readFrom (machine picture) bytes fresh from (roomOf rows₀)) rows₀ 0 state at n rows
 
 abbrev μ-loop : tie.MeasureT-loop
 μ-loop bytes from picture rows₀ state₀ at₀ n₀ rows state at n = length bytes - at

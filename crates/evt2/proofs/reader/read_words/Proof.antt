@@ -7,6 +7,8 @@ use Rattle.evt2.specs.declared.state.State.{State}
 use Rattle.evt2.specs.declared.kind.Kind.the-variants.{TimeHigh, ImuEvt, Others, Inside}
 use Rattle.words.proofs.Wrote.{gave-length}
 use Rattle.words.proofs.Between.{Between, between-start, between-length, between-room, found, ends-whole, ends-pending, ends-part, word-in, goes-on-gave, ends-gave-full, ends-gave}
+use Rattle.rows.specs.Row.{roomOf}
+use Rattle.words.specs.Machine.{readFrom}
 use Rattle.words.specs.Words.{nextAt}
 use Rattle.words.specs.declared.picture.Picture.{Picture}
 use Rattle.words.specs.declared.Next.the-variants.{Word}
@@ -21,7 +23,7 @@ use Rattle.evt2.proofs.reader.read_words.Statement.{statement}
 use Rattle.evt2.proofs.reader.read_words.Tie as tie
 
 abbrev Inv-loop : tie.InvT-loop
-Inv-loop bytes picture rows₀ state₀ at₀ n₀ rows state at n = Between (machine picture) bytes fresh 0 rows₀ state at n rows
+Inv-loop bytes picture rows₀ state₀ at₀ n₀ rows state at n = Between (machine picture) bytes (readFrom (machine picture) bytes fresh 0 (roomOf rows₀)) rows₀ 0 state at n rows
 
 abbrev μ-loop : tie.MeasureT-loop
 μ-loop bytes picture rows₀ state₀ at₀ n₀ rows state at n = length bytes - at
@@ -42,6 +44,9 @@ state d = d .before .before .before .before .before .before .before .before .loo
 abbrev picture : Gave-place → Picture
 picture d = d .before .before .before .before .before .before .before .before .before .before .before .before .args .picture
 
+abbrev rows : Gave-place → List ℕ
+rows d = d .before .before .before .before .before .before .before .before .before .before .before .before .args .rows .now
+
 abbrev w : Gave-place → ℕ
 w d = d .before .before .before .before .next .given .0 .0
 
@@ -53,7 +58,7 @@ word-fits d = word-in (d .before .before .before .before .before .before .before
 
 -- the invariant after it, with the state that it leads to
 after-word : (d : Gave-place) {s′ : State} {count : ℕ} → s′ ≡ nextAs (d .before .before .kind .result) (state d) (place d) (w d) → d .give .result ≡ Rows count
-    → Between (machine (picture d)) (bytes d) fresh 0 (d .before .before .before .before .before .before .before .before .before .before .before .before .args .rows .now) s′ (place d + 4) count (d .give .last .1 .1 .1 .1 .0)
+    → Between (machine (picture d)) (bytes d) (readFrom (machine (picture d)) (bytes d) fresh 0 (roomOf (rows d))) (rows d) 0 s′ (place d + 4) count (d .give .last .1 .1 .1 .1 .0)
 after-word d next gave = goes-on-gave (d .before .before .before .before .before .before .before .before .loop .inv) (lit< tt) (word d) _ (in-parts _ _ _ _ (d .before .before .kind .ensures) next) (d .give .ensures) gave
 
 fresh-requires : tie.Need-fresh-requires Inv-loop μ-loop

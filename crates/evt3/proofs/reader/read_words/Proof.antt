@@ -8,6 +8,8 @@ use lib.Dec.{lit<}
 use Rattle.words.specs.declared.Gave.the-variants.{Rows}
 use Rattle.words.specs.declared.Next.the-variants.{Word}
 use Rattle.words.specs.declared.picture.Picture.{Picture}
+use Rattle.rows.specs.Row.{roomOf}
+use Rattle.words.specs.Machine.{readFrom}
 use Rattle.words.specs.Words.{nextAt}
 use Rattle.words.proofs.Between.{Between, between-start, between-length, between-room, found, ends-whole, ends-part, word-in, goes-on-gave, ends-gave-full, ends-gave}
 use Rattle.words.proofs.Wrote.{gave-length}
@@ -19,7 +21,7 @@ use Rattle.evt3.proofs.reader.read_words.Statement.{statement}
 use Rattle.evt3.proofs.reader.read_words.Tie as tie
 
 abbrev Inv-loop : tie.InvT-loop
-Inv-loop bytes picture rows₀ state₀ at₀ n₀ rows state at n = Between (machine picture) bytes fresh 0 rows₀ state at n rows
+Inv-loop bytes picture rows₀ state₀ at₀ n₀ rows state at n = Between (machine picture) bytes (readFrom (machine picture) bytes fresh 0 (roomOf rows₀)) rows₀ 0 state at n rows
 
 abbrev μ-loop : tie.MeasureT-loop
 μ-loop bytes picture rows₀ state₀ at₀ n₀ rows state at n = length bytes - at
@@ -40,6 +42,9 @@ state d = d .before .before .before .before .before .before .before .before .loo
 abbrev picture : Gave-place → Picture
 picture d = d .before .before .before .before .before .before .before .before .before .before .before .before .args .picture
 
+abbrev rows : Gave-place → List ℕ
+rows d = d .before .before .before .before .before .before .before .before .before .before .before .before .args .rows .now
+
 abbrev w : Gave-place → ℕ
 w d = d .before .before .before .before .next .given .0 .0
 
@@ -51,7 +56,7 @@ word-fits d = word-in (d .before .before .before .before .before .before .before
 
 -- the invariant after it, with the state that it leads to
 after-word : (d : Gave-place) {s′ : State} {count : ℕ} → InParts (d .before .before .of .result) (picture d) (state d) (w d) s′ → d .give .result ≡ Rows count
-    → Between (machine (picture d)) (bytes d) fresh 0 (d .before .before .before .before .before .before .before .before .before .before .before .before .args .rows .now) s′ (place d + 2) count (d .give .last .1 .1 .1 .1 .0)
+    → Between (machine (picture d)) (bytes d) (readFrom (machine (picture d)) (bytes d) fresh 0 (roomOf (rows d))) (rows d) 0 s′ (place d + 2) count (d .give .last .1 .1 .1 .1 .0)
 after-word d parts gave = goes-on-gave (d .before .before .before .before .before .before .before .before .loop .inv) (lit< tt) (word d) _ parts (d .give .ensures) gave
 
 fresh-requires : tie.Need-fresh-requires Inv-loop μ-loop

@@ -7,10 +7,10 @@ use Rattle.header.proofs.line.line_end.Statement.{statement}
 use Rattle.header.proofs.line.line_end.Tie as tie
 
 abbrev Inv-loop : tie.InvT-loop
-Inv-loop bytes i₀ i = Seeking 256 bytes i
+Inv-loop bytes most i₀ i = Seeking most bytes i
 
 abbrev μ-loop : tie.MeasureT-loop
-μ-loop bytes i₀ i = 256 - i
+μ-loop bytes most i₀ i = most - i
 
 loop-holds : tie.Need-loop-holds Inv-loop μ-loop
 loop-holds c = seeking-none

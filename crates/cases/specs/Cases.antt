@@ -1,4 +1,4 @@
--- The cases that 01 marks with a star, as one list: an input, and what is seen of it. So far those of EVT2, EVT3 and DAT.
+-- The cases that 01 marks with a star, as one list: an input, and what is seen of it.
 use mathlib.Core.Path.{_≡_}
 use Prim.Native.Nat.{ℕ}
 use mathlib.Core.Bool.{Bool, true, cond}
@@ -22,16 +22,20 @@ use Rattle.evt2.specs.declared.state.State as evt2State
 use Rattle.evt2.specs.Reader as evt2Reader
 use Rattle.dat.specs.declared.state.State as datState
 use Rattle.dat.specs.Reader as datReader
+use Rattle.aedat.specs.declared.state.State as aedatState
+use Rattle.aedat.specs.Lines.{versionText, formatText, endText}
+use Rattle.aedat.specs.Reader as aedatReader
 use Rattle.evt3.specs.declared.state.State.{State}
 use Rattle.evt3.specs.Reader.{readingOf}
 use Rattle.evt3.specs.Spelling.{spelling}
 use Rattle.evt3.specs.State.{fresh, withHigh, withTime, withY, withBase}
 
--- what is read, EVT2 or EVT3 words, for a picture of 2,048 by 2,048, or the bytes of a DAT file; or what is written as EVT3 words, rows
+-- what is read, EVT2 or EVT3 words, for a picture of 2,048 by 2,048, or the bytes of a DAT or AEDAT file; or what is written as EVT3 words, rows
 pub data Input : Type 0 where
   evt2 : List ℕ → Input
   evt3 : List ℕ → Input
   dat : List ℕ → Input
+  aedat : List ℕ → Input
   toEvt3 : List Row → Input
 
 -- how the reading ends: in a state (of EVT2, whether a high part is known, which, and how many words of a group are to come; of DAT, the
@@ -40,6 +44,7 @@ pub data Final : Type 0 where
   evt2Ends : Bool → ℕ → ℕ → Final
   evt3Ends : State → Final
   datEnds : ℕ → Final
+  aedatEnds : aedatState.State → Final
   refusedAt : Fault → ℕ → Final
   writes : Verdict → List ℕ → Final
 
@@ -82,6 +87,13 @@ datFinal (refused f place) = refusedAt f place
 abbrev pub datSeen : Run (Reached datState.State) → Seen
 datSeen run = record { rows = run .rows; final = datFinal (run .ending); readings = allReadings (run .rows) }
 
+abbrev pub aedatFinal : Ending aedatState.State → Final
+aedatFinal (finished s) = aedatEnds s
+aedatFinal (refused f place) = refusedAt f place
+
+abbrev pub aedatSeen : Run aedatState.State → Seen
+aedatSeen run = record { rows = run .rows; final = aedatFinal (run .ending); readings = allReadings (run .rows) }
+
 abbrev pub evt3Written : List Row → Seen
 evt3Written rs =
     record { rows = rs; final = writes (writingVerdict spelling (flat rs) 100) (spelled spelling (flat rs)); readings = allReadings rs }
@@ -91,6 +103,7 @@ abbrev pub seenOf : Input → Seen
 seenOf (evt2 ws) = evt2Seen (evt2Reader.readingOf (pictureOf 2048 2048) (bytesOfAll 4 ws) 100)
 seenOf (evt3 ws) = evt3Seen (readingOf (pictureOf 2048 2048) (bytesOfAll 2 ws) 100)
 seenOf (dat bytes) = datSeen (datReader.readingOf bytes 100)
+seenOf (aedat bytes) = aedatSeen (aedatReader.readingOf bytes 100)
 seenOf (toEvt3 rs) = evt3Written rs
 
 -- a case, and that it holds
@@ -112,6 +125,17 @@ still = 0xF0000000 ∷ 0xF0000000 ∷ 0xF0000000 ∷ 0xF0000000 ∷ 0xF0000000 �
 
 abbrev pub zeros : List Float
 zeros = plusZero ∷ plusZero ∷ plusZero ∷ plusZero ∷ plusZero ∷ plusZero ∷ []
+
+-- a line of an AEDAT file: its text, CR and LF
+abbrev pub aedatLine : List ℕ → List ℕ
+aedatLine text = text ++ (13 ∷ 10 ∷ [])
+
+-- an AEDAT file of one polarity event: the lines; a packet's type 1 and source 0; its size 8, offset 4, overflow, and capacity, number and
+-- valid 1; the event's word and its time
+abbrev pub onePolarity : ℕ → ℕ → ℕ → List ℕ
+onePolarity overflow w time =
+    aedatLine versionText ++ aedatLine formatText ++ aedatLine endText ++ bytesOfAll 2 (1 ∷ 0 ∷ [])
+    ++ bytesOfAll 4 (8 ∷ 4 ∷ overflow ∷ 1 ∷ 1 ∷ 1 ∷ w ∷ time ∷ [])
 
 abbrev pub starCases : List Case
 starCases =
@@ -169,6 +193,16 @@ starCases =
     ∷ record {
       input = dat (0x00 ∷ 0x08 ∷ 0x64 ∷ 0x00 ∷ 0x00 ∷ 0x00 ∷ 0x05 ∷ 0xC0 ∷ 0x00 ∷ 0x10 ∷ []);
       seen = record { rows = pixelRow 100 5 3 1 ∷ []; final = datEnds 100; readings = [] };
+    }
+    -- AEDAT: one pixel, overflow 1 and time 7
+    ∷ record {
+      input = aedat (onePolarity 1 0x000A000F 7);
+      seen =
+          record {
+            rows = pixelRow 2147483655 5 3 1 ∷ [];
+            final = aedatEnds (record { special = 0; polarity = 2147483655; imu = 0; source = 0; known = true });
+            readings = [];
+          };
     }
     -- x 5, 6 and 40 written
     ∷ record {

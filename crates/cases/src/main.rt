@@ -1,5 +1,7 @@
 // Runs cases and writes what comes back, a line each. The file stdout beside src/ says what that must be; it is written
 // from the requirement and taken from no run.
+mod aedat_cases;
+mod aedat_event_cases;
 mod answers;
 mod evt2_cases;
 mod evt3_cases;
@@ -30,4 +32,7 @@ fn main() {
     file_cases::headers();
     file_cases::raws();
     file_cases::dats();
+    aedat_cases::lines();
+    aedat_cases::packets();
+    aedat_event_cases::events();
 }

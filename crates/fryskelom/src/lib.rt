@@ -16,6 +16,7 @@ ghost use Rattle.evt3.specs.Spelling as evt3Words;
 ghost use Rattle.raw.specs.declared.reader.Format.the-variants.{Evt2, Evt3};
 ghost use Rattle.raw.specs.Reader as raw;
 ghost use Rattle.dat.specs.Reader as dat;
+ghost use Rattle.aedat.specs.Reader as aedat;
 use header::HeaderNumbers;
 use raw::Format;
 use rows::EventNumbers;
@@ -102,4 +103,12 @@ pub extern "C" fn fry_read_dat(bytes: &[u8], rows: &mut [u32]) -> ReadingNumbers
     ensures { λ r. ⌜ ReadNumbers (dat.readingOf (now (bytes .entry)) (roomOf (now (rows .entry)))) (now (rows .entry)) (now (rows .exit)) r ⌝ }
 {
     dat::read(bytes, rows).numbers()
+}
+
+// The rows of an AEDAT 3.1 file.
+#[no_mangle]
+pub extern "C" fn fry_read_aedat(bytes: &[u8], rows: &mut [u32]) -> ReadingNumbers
+    ensures { λ r. ⌜ ReadNumbers (aedat.readingOf (now (bytes .entry)) (roomOf (now (rows .entry)))) (now (rows .entry)) (now (rows .exit)) r ⌝ }
+{
+    aedat::read(bytes, rows).numbers()
 }

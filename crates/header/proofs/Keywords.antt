@@ -1,14 +1,13 @@
--- The end of a keyword, sought byte by byte, and whether a keyword is a name.
-use mathlib.Core.Path.{_≡_, refl, sym, _∙_, ap, ap₂}
+-- The end of a keyword, sought byte by byte.
+use mathlib.Core.Path.{_≡_, sym, _∙_, ap}
 use Prim.Native.Nat.{ℕ, suc, _+_, _≤_, _<_}
 use native.Mathlib.Omega.{arith}
-use mathlib.Core.Bool.{Bool, true, false, cond, _&&_, and-false}
+use mathlib.Core.Bool.{Bool, true, false, cond}
 use mathlib.Core.List.{List, [], _∷_}
 use lib.ListN.{length, take, drop, getD, drop-of-length-le}
 use lib.Seq.{length-take-le}
-use lib.Dec.{eqb}
 use borrow.Author.Tests.{eq-eqb, ne-eqb}
-use Rattle.header.specs.Sides.{endsKeyword, keywordLength, lower, named}
+use Rattle.header.specs.Sides.{endsKeyword, keywordLength}
 use Rattle.header.proofs.LineEnds.{drop-at}
 
 -- the keyword is at least i bytes long
@@ -60,36 +59,3 @@ keyword-in (c ∷ t) = go (endsKeyword c) (keyword-in t)
 
 pub keyword-taken : (t : List ℕ) {n : ℕ} → n ≡ keywordLength t → n ≡ length (take n t)
 keyword-taken t {n} e = sym (length-take-le n t (omega (arith, keyword-in t)))
-
--- a keyword of another length is another name
-pub named-length : (k name : List ℕ) → (length k ≡ length name → ⊥) → named k name ≡ false
-unfolding named
-named-length [] [] h = absurd (h refl)
-named-length [] (d ∷ name) h = refl
-named-length (c ∷ k) [] h = refl
-named-length (c ∷ k) (d ∷ name) h = ap (λ (b : Bool). eqb (lower c) d && b) (named-length k name (λ e. h (ap suc e))) ∙ and-false (eqb (lower c) d)
-
--- i letters are those of the name
-pub record Matching (k name : List ℕ) (i : ℕ) : Type 0 where
-  pub long : length k ≡ length name
-  pub same : named k name ≡ named (drop i k) (drop i name)
-
-pub matching-none : {k name : List ℕ} → length k ≡ length name → Matching k name 0
-matching-none e = record { long = e; same = refl }
-
-module _ {k name : List ℕ} {i : ℕ} (h : Matching k name i) where
-  letter : i < length name → named k name ≡ eqb (lower (getD k i 0)) (getD name i 0) && named (drop (i + 1) k) (drop (i + 1) name)
-  unfolding named
-  letter p = h .same ∙ ap₂ named (drop-at k i (omega (arith, h .long))) (drop-at name i p)
-
-  pub matching-next : i < length name → lower (getD k i 0) ≡ getD name i 0 → Matching k name (i + 1)
-  matching-next p e = record { long = h .long; same = letter p ∙ simp (eq-eqb _ _ e) }
-
-  pub matching-other : i < length name → (lower (getD k i 0) ≡ getD name i 0 → ⊥) → false ≡ named k name
-  matching-other p e = rw (letter p) (simp (ne-eqb _ _ e))
-
-  pub matching-all : length name ≤ i → true ≡ named k name
-  unfolding named
-  matching-all p =
-      let q : length k ≤ i = omega (arith, h .long) in
-      rw (h .same, drop-of-length-le k q, drop-of-length-le name p)

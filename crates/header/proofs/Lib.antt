@@ -5,4 +5,5 @@ pub mod Keywords
 pub mod Kept
 pub mod LineEnds
 pub mod Lines
+pub mod Texts
 pub mod Within

@@ -81,10 +81,10 @@ end-in few (suc most) (c ∷ b) k h =
     if-end few (k + suc (length b)) (Ends k) (lineEnd most b (k + 1)) (eqb c 10) (h, omega arith)
     (subst (λ (m : ℕ). EndIn few m (lineEnd most b (k + 1))) e (end-in few most b (k + 1) (omega arith)))
 
-pub line-ends : (b : List ℕ) → EndIn 0 (length b) (lineEnd 256 b 0)
-line-ends b =
+pub line-ends : (most : ℕ) (b : List ℕ) → EndIn 0 (length b) (lineEnd most b 0)
+line-ends most b =
     let e : 0 + length b ≡ length b = omega arith in
-    subst (λ (m : ℕ). EndIn 0 m (lineEnd 256 b 0)) e (end-in 0 256 b 0 (omega arith))
+    subst (λ (m : ℕ). EndIn 0 m (lineEnd most b 0)) e (end-in 0 most b 0 (omega arith))
 
 -- a line of the header is longer than the two bytes that it starts with
 after-start : (r : List ℕ) → lineEnd 256 (0x25 ∷ 0x20 ∷ r) 0 ≡ lineEnd 254 r 2

@@ -92,7 +92,7 @@ unfolding stepOf
 step-in limit b s = go (isLine b)
   where
     go : (t : Bool) → StepIn (length b) (cond t (lineStep (lineEnd 256 b 0) limit b s) Over)
-    go true = line-step-in limit b s (lineEnd 256 b 0) (line-ends b)
+    go true = line-step-in limit b s (lineEnd 256 b 0) (line-ends 256 b)
     go false = tt
 
 -- one step, as long as there are bytes to come

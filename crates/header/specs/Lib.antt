@@ -3,3 +3,4 @@ pub mod Header
 pub mod Lines
 pub mod Promises
 pub mod Sides
+pub mod Texts

@@ -11,6 +11,7 @@ use Rattle.header.specs.declared.side.Judged.{Judged}
 use Rattle.header.specs.declared.side.Judged.the-variants.{Good, Bad}
 use Rattle.header.specs.declared.value.Value.{Value}
 use Rattle.header.specs.declared.value.Value.the-variants.{Number, Malformed}
+use Rattle.header.specs.Texts.{sameAs}
 
 -- a keyword runs up to a space, a colon or the end of the line's text
 abbrev pub endsKeyword : ℕ → Bool
@@ -25,11 +26,8 @@ unfoldable pub lower : ℕ → ℕ
 lower c = cond (leb 65 c && leb c 90) (c + 32) c
 
 -- whether a keyword is a name, in any letter case; the name is in lower case
-unfoldable pub named : List ℕ → List ℕ → Bool
-named [] [] = true
-named [] (d ∷ name) = false
-named (c ∷ k) [] = false
-named (c ∷ k) (d ∷ name) = eqb (lower c) d && named k name
+abbrev pub named : List ℕ → List ℕ → Bool
+named k name = sameAs lower k name
 
 -- "width" and "height"
 abbrev pub widthName : List ℕ

@@ -7,7 +7,7 @@ use lib.Pow.{pow-pos, pow-add, shr-shr, split, high, low}
 use Rattle.words.specs.Fields.{field, typed, placed}
 
 -- at every position a field is a quotient's remainder
-field-is : (at width w : ℕ) → field at width w ≡ w / 2 ^ at % 2 ^ width
+pub field-is : (at width w : ℕ) → field at width w ≡ w / 2 ^ at % 2 ^ width
 field-is zero width w = ap (λ (n : ℕ). n % 2 ^ width) (sym (div-one w))
 field-is (suc at) width w = refl
 

@@ -2,8 +2,9 @@
 use mathlib.Core.Path.{_∙_, ap}
 use Rattle.words.specs.Words.{Words, wordsOf}
 use Rattle.words.specs.Machine.{run}
-use Rattle.words.specs.Promises.{FieldSmall, FieldPlaced, FieldParts, TypeFound, TypeBelow, RoomRefused, WordsBack, RunTwoParts, RowsFit, RowsGood, PlacesWithin}
+use Rattle.words.specs.Promises.{FieldSmall, FieldPlaced, FieldParts, TypeFound, TypeBelow, FieldBytes, RoomRefused, WordsBack, RunTwoParts, RowsFit, RowsGood, PlacesWithin}
 use Rattle.words.proofs.BitFields as fields
+use Rattle.words.proofs.ByteFields as byteFields
 use Rattle.words.proofs.Bytes as bytes
 use Rattle.words.proofs.Cut.{words-join}
 use Rattle.words.proofs.Places.{reading-within}
@@ -25,6 +26,9 @@ type-found = fields.type-found
 
 pub type-below : TypeBelow
 type-below = fields.type-below
+
+pub field-bytes : FieldBytes
+field-bytes = byteFields.field-bytes
 
 pub room-refused : RoomRefused
 room-refused s l bytes e = room-exact s l bytes e

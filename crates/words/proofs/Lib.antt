@@ -2,6 +2,7 @@
 pub mod Admitted
 pub mod Between
 pub mod BitFields
+pub mod ByteFields
 pub mod Bytes
 pub mod Cut
 pub mod Kept

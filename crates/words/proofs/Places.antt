@@ -11,10 +11,10 @@ use Rattle.rows.specs.declared.fault.Fault.the-variants.{NoRoom, Cut}
 use Rattle.rows.specs.declared.row.Row.{Row}
 use Rattle.rows.specs.Runs.{Ending, finished, refused, Run, prepend, stopped, resume, EndsWithin}
 use Rattle.words.specs.Words.{value, Words, word, whole, part, cutBy, wordsOf}
-use Rattle.words.specs.Machine.{Outcome, next, fault, Given, gives, refuses, onto, Machine, Reached, after, run, closed, readFrom, Follows}
+use Rattle.words.specs.Machine.{Outcome, next, fault, Given, gives, refuses, onto, Machine, Reached, after, run, closed, reading, readFrom, Follows}
 
 -- the bytes of the whole words of a stream
-abbrev bytesIn : ℕ → Words → ℕ
+abbrev pub bytesIn : ℕ → Words → ℕ
 bytesIn size (word w ws) = size + bytesIn size ws
 bytesIn size whole = 0
 bytesIn size part = 0
@@ -34,7 +34,7 @@ cut-within (suc most) size l = go (eqb (length l) 0) (ltb (length l) size) refl 
     go false true e ih = omega arith
     go false false e ih = omega (arith, ltb-false (length l) size e, ih, length-drop size l)
 
-words-within : (size : ℕ) (l : List ℕ) → bytesIn size (wordsOf size l) ≤ length l
+pub words-within : (size : ℕ) (l : List ℕ) → bytesIn size (wordsOf size l) ≤ length l
 unfolding wordsOf
 words-within size l = cut-within (length l) size l
 
@@ -60,21 +60,20 @@ module _ {S : Type 0} (m : Machine S) {Kept : S → ℕ → Type 0} (k : Follows
       go (next s′ new) e ih =
           given new (run m ws s′ (place + m .size) (room - length new)) (ih s′ (room - length new) (k .step s place w s′ new h e)) (leb (length new) room)
 
-  pub reading-within : (bytes : List ℕ) (s : S) (at room : ℕ) → Kept s at → at ≤ length bytes → EndsWithin (readFrom m bytes s at room .ending) (length bytes)
-  reading-within bytes s at room h g =
-      go (run m ws s at room .ending) (run-ends ws s at room (length bytes) h (omega (arith, g, words-within (m .size) (drop at bytes), length-drop at bytes)))
+  pub reading-ends : (ws : Words) (s : S) (at room end : ℕ) → Kept s at → at + bytesIn (m .size) ws ≤ end → EndsWithin (reading m ws s at room .ending) end
+  reading-ends ws s at room end h g = go (run m ws s at room .ending) (run-ends ws s at room end h g)
     where
-      ws : Words
-      ws = wordsOf (m .size) (drop at bytes)
-
-      close : (r : Reached S) → Ends (finished r) (length bytes) → (t : Bool)
-          → EndsWithin (cond t (refused Cut (m .origin (r .state) (r .place))) (finished r)) (length bytes)
+      close : (r : Reached S) → Ends (finished r) end → (t : Bool) → EndsWithin (cond t (refused Cut (m .origin (r .state) (r .place))) (finished r)) end
       close r f true = omega (arith, f .1, k .origin (r .state) (r .place) (f .0))
       close r f false = tt
 
-      go : (e : Ending (Reached S)) → Ends e (length bytes) → EndsWithin (resume (run m ws s at room .rows) e room (closed m) .ending) (length bytes)
+      go : (e : Ending (Reached S)) → Ends e end → EndsWithin (resume (run m ws s at room .rows) e room (closed m) .ending) end
       go (finished r) f = close r f (m .pending (r .state))
       go (refused f place) e = e
+
+  pub reading-within : (bytes : List ℕ) (s : S) (at room : ℕ) → Kept s at → at ≤ length bytes → EndsWithin (readFrom m bytes s at room .ending) (length bytes)
+  reading-within bytes s at room h g =
+      reading-ends (wordsOf (m .size) (drop at bytes)) s at room (length bytes) h (omega (arith, g, words-within (m .size) (drop at bytes), length-drop at bytes))
 
 -- how a machine is shown to follow its words: of what a word does at a place
 module _ {S : Type 0} (Kept : S → ℕ → Type 0) where

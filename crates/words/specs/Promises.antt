@@ -2,11 +2,11 @@
 use mathlib.Core.Path.{_≡_}
 use Prim.Native.Nat.{ℕ, _+_, _*_, _/_, _^_, _≤_, _<_}
 use mathlib.Core.List.{List, [], _∷_, _++_}
-use lib.ListN.{length}
+use lib.ListN.{length, take, drop, getD}
 use Rattle.rows.specs.declared.fault.Fault.the-variants.{NoRoom}
 use Rattle.rows.specs.Rules.{AllGood, accepted, refused, verdictOf}
 use Rattle.rows.specs.Runs.{andThen, EndsWithin}
-use Rattle.words.specs.Words.{Words, word, wordsOf, bytesOfAll}
+use Rattle.words.specs.Words.{value, Words, word, wordsOf, bytesOfAll}
 use Rattle.words.specs.Fields.{field, typed, placed}
 use Rattle.words.specs.Machine.{Machine, run, reading, readFrom, Keeps, Follows}
 use Rattle.words.specs.Writer.{Spelling, spelled, writingVerdict}
@@ -29,6 +29,13 @@ TypeFound = (at width top below : ℕ) → top < 2 ^ width → below < 2 ^ at �
 
 abbrev pub TypeBelow : Type 0
 TypeBelow = (at top below i width : ℕ) → i + width ≤ at → field i width (typed at top below) ≡ field i width below
+
+-- bytes, and that a field of whole bytes is the number that these bytes make, in words of every size
+abbrev pub Bytes : List ℕ → Type 0
+Bytes l = (i : ℕ) → getD l i 0 < 256
+
+abbrev pub FieldBytes : Type 0
+FieldBytes = (l : List ℕ) → Bytes l → (from n : ℕ) → field (from * 8) (n * 8) (value l) ≡ value (take n (drop from l))
 
 -- all of 01's words are low byte first: words that were written are read again, before whatever follows them
 abbrev pub Small : ℕ → List ℕ → Type 0

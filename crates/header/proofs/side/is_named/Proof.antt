@@ -1,5 +1,6 @@
 -- `header::side::is_named` meets its contract.
-use Rattle.header.proofs.Keywords.{named-length, Matching, matching-none, matching-other, matching-next, matching-all}
+use Rattle.header.proofs.Texts.{other-length, Matching, matching-none, matching-other, matching-next, matching-all}
+use Rattle.header.specs.Sides.{lower}
 use lib.ListN.{length}
 use native.Mathlib.Omega.{arith}
 use Prim.Native.Nat.{_-_}
@@ -8,13 +9,13 @@ use Rattle.header.proofs.side.is_named.Statement.{statement}
 use Rattle.header.proofs.side.is_named.Tie as tie
 
 abbrev Inv-loop : tie.InvT-loop
-Inv-loop keyword name i₀ i = Matching keyword name i
+Inv-loop keyword name i₀ i = Matching lower keyword name i
 
 abbrev μ-loop : tie.MeasureT-loop
 μ-loop keyword name i₀ i = length name - i
 
 returns : tie.Need-returns Inv-loop μ-loop
-returns c = sym (named-length _ _ (c .if1 .taken))
+returns c = sym (other-length lower _ _ (c .if1 .taken))
 
 loop-holds : tie.Need-loop-holds Inv-loop μ-loop
 loop-holds c = matching-none (c .if1 .left)

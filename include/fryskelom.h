@@ -61,7 +61,7 @@ fry_reading fry_read_evt3(const uint8_t *bytes, size_t bytes_len, uint32_t width
  * 9, for no newline so far, a width or height that is malformed, 0 or over limit, and a width or height said before. */
 fry_header fry_read_header(const uint8_t *bytes, size_t bytes_len, uint32_t limit);
 
-/* Readers of files. The picture is what the text header says, places count from the file's first byte, and rows are as for the
+/* Readers of RAW and DAT files. The picture is what the text header says, places count from the file's first byte, and rows are as for the
  * readers of words. Refused first, with no rows: what fry_read_header refuses. */
 
 /* Reads a RAW file of EVT2 words, each side of the picture at most 2,048. After the header all is as in fry_read_evt2. */
@@ -73,6 +73,16 @@ fry_reading fry_read_raw_evt3(const uint8_t *bytes, size_t bytes_len, uint32_t *
 /* Reads a DAT file, each side of the picture at most 16,384. After the header stand the bytes 0 and 8, refused where the first of
  * them is or should be: 4 where fewer than two are left, else 9. Refused at an event, in this order: 4, 5, 6, 2. */
 fry_reading fry_read_dat(const uint8_t *bytes, size_t bytes_len, uint32_t *rows, size_t rows_len);
+
+/* Reads an AEDAT 3.1 file. Places count from the file's first byte, and rows are as for the readers of words; there is no picture, so that
+ * x and y are any of 15 bits. Packets of types 0, 1 and 3 (special, polarity, IMU6) are read, those of 2, 4, 12 and from 100 on are jumped.
+ * Events without the mark of a valid one give nothing and are not judged.
+ * Refused: 1, with place 0. Then at the first header line at fault: 4 where the input ends before its newline and before its 1,024th
+ * byte, also where it ends before the line's first byte, else 9. Then at a packet, in this order: 4 where its header is cut; 10 for what
+ * the header says (type, size, offset, source, overflow, capacity, number, valid; of a jumped packet any offset and any size from 0 on are
+ * good); 4 where its data are cut; 10 where it is read and valid is not the number of marks. Then at a valid event, in this order: 5 for a
+ * negative time, 11, 5 for a time earlier than the last valid one of its packet type, 2. */
+fry_reading fry_read_aedat(const uint8_t *bytes, size_t bytes_len, uint32_t *rows, size_t rows_len);
 
 /* Writes the EVT2 words of rows, four bytes each, from out[0] on, and answers how many they are: seven a row at most. What
  * follows them is not touched. rows_len counts numbers, ten a row. Kinds 1, 2 and 3 are written, x and y below 2,048, and no

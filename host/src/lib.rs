@@ -150,6 +150,12 @@ pub fn read_dat(bytes: &[u8], rows: &mut [u32]) -> Result<usize, Fault> {
     reading(dat_numbers(bytes, rows))
 }
 
+/// Reads an AEDAT 3.1 file. It says nothing of a picture, so that x and y are any of 15 bits. Packets of frames, of nine-axis IMUs, of spikes
+/// and of private types are jumped. Places count from the file's first byte; rows are as in [`read_evt2`].
+pub fn read_aedat(bytes: &[u8], rows: &mut [u32]) -> Result<usize, Fault> {
+    reading(aedat_numbers(bytes, rows))
+}
+
 /// Writes a list of rows, ten numbers each, as EVT2 words of four bytes from the buffer's first byte on, and answers how many words
 /// there are: at most seven for a row. What follows them is left as it was, and all of the buffer where the list is refused.
 pub fn write_evt2(rows: &[u32], out: &mut [u8]) -> Result<usize, RowFault> {
@@ -221,6 +227,12 @@ pub fn raw_evt3_numbers(bytes: &[u8], rows: &mut [u32]) -> (u64, u64, u64) {
 #[doc(hidden)]
 pub fn dat_numbers(bytes: &[u8], rows: &mut [u32]) -> (u64, u64, u64) {
     file_numbers(sys::fry_read_dat, bytes, rows)
+}
+
+/// All that `fry_read_aedat` answers, as `evt2_numbers` has it.
+#[doc(hidden)]
+pub fn aedat_numbers(bytes: &[u8], rows: &mut [u32]) -> (u64, u64, u64) {
+    file_numbers(sys::fry_read_aedat, bytes, rows)
 }
 
 fn file_numbers(reader: sys::FileReader, bytes: &[u8], rows: &mut [u32]) -> (u64, u64, u64) {

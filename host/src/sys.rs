@@ -49,4 +49,5 @@ extern "C" {
     pub fn fry_read_raw_evt2(bytes: *const u8, bytes_len: usize, rows: *mut u32, rows_len: usize) -> FryReading;
     pub fn fry_read_raw_evt3(bytes: *const u8, bytes_len: usize, rows: *mut u32, rows_len: usize) -> FryReading;
     pub fn fry_read_dat(bytes: *const u8, bytes_len: usize, rows: *mut u32, rows_len: usize) -> FryReading;
+    pub fn fry_read_aedat(bytes: *const u8, bytes_len: usize, rows: *mut u32, rows_len: usize) -> FryReading;
 }

@@ -1,21 +1,21 @@
 //! The DAT reader of the library, and the hand-written one of the benchmark, against the second implementation: events at the edges of a
 //! picture, of every polarity and before or after the last time, headers of every rule, and files that are made up, damaged, cut and short
 //! of room.
-#[path = "common/files.rs"]
-mod files;
+#[path = "common/answer.rs"]
+mod answer;
+#[path = "common/text_header_files.rs"]
+mod text_header_files;
 
-use files::{compare_all, compare_longest, often, Answer, Family};
+use answer::answer;
 use fryskelom::samples::dat::{data, event, TYPE_AND_SIZE};
 use fryskelom::samples::{Numbers, Picture};
 use fryskelom::second::header::Header;
 use fryskelom::second::words::Reading;
 use fryskelom::{dat_numbers, fast, second};
+use text_header_files::{compare_all, compare_longest, often, Family};
 
-fn hand_written(bytes: &[u8], rows: &mut [u32]) -> Answer {
-    match fast::dat::read(bytes, rows) {
-        Ok(rows) => (0, rows as u64, 0),
-        Err(fault) => (fault.refusal.0, fault.rows as u64, fault.place as u64),
-    }
+fn hand_written(bytes: &[u8], rows: &mut [u32]) -> (u64, u64, u64) {
+    answer(fast::dat::read(bytes, rows))
 }
 
 /// What the inputs have reached.
@@ -57,7 +57,7 @@ impl Reached {
     }
 }
 
-impl files::Reached for Reached {
+impl text_header_files::Reached for Reached {
     const SIDE: u32 = 16_384;
 
     const REFUSED: &'static [usize] = &[2, 4, 5, 6, 9];
@@ -122,7 +122,7 @@ impl files::Reached for Reached {
     }
 }
 
-type Comparer = files::Comparer<Reached>;
+type Comparer = text_header_files::Comparer<Reached>;
 
 /// An event at, before or past each edge, of every polarity, earlier than the last one, with it or later, with and without room.
 fn edges(comparer: &mut Comparer) {

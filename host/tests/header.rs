@@ -2,7 +2,7 @@
 use std::path::Path;
 use std::process::Command;
 
-const PROGRAM: &str = r#"
+const PROGRAM: &str = r##"
 #include "fryskelom.h"
 #include <inttypes.h>
 #include <stdio.h>
@@ -35,6 +35,7 @@ static void show_reading(reader *read, const uint8_t *bytes, size_t len) {
 }
 
 static const char text[] = "% width: 640\n% Height 480\n";
+static const char lines[] = "#!AER-DAT3.1\r\n#Format: RAW\r\n#!END-HEADER\r\n";
 
 static void show_header(size_t len, uint32_t limit) {
     fry_header h = fry_read_header((const uint8_t *)text, len, limit);
@@ -43,13 +44,14 @@ static void show_header(size_t len, uint32_t limit) {
 
 typedef fry_reading file_reader(const uint8_t *, size_t, uint32_t *, size_t);
 
-static void show_file(file_reader *read, const uint8_t *data, size_t len) {
-    uint8_t bytes[64];
+static void show_file(file_reader *read, const char *header, const uint8_t *data, size_t len) {
+    uint8_t bytes[128];
     uint32_t rows[20];
+    size_t start = strlen(header);
     for (int i = 0; i < 20; i++) rows[i] = 7;
-    memcpy(bytes, text, 26);
-    memcpy(bytes + 26, data, len);
-    show_rows(read(bytes, 26 + len, rows, 20), rows);
+    memcpy(bytes, header, start);
+    memcpy(bytes + start, data, len);
+    show_rows(read(bytes, start + len, rows, 20), rows);
 }
 
 typedef fry_writing writer(const uint32_t *, size_t, uint8_t *, size_t);
@@ -84,16 +86,20 @@ int main(void) {
     show_header(13, 2048);
     show_header(20, 2048);
     show_header(26, 479);
-    show_file(fry_read_raw_evt2, evt2, 8);
-    show_file(fry_read_raw_evt2, evt2, 12);
-    show_file(fry_read_raw_evt3, evt3, 8);
-    show_file(fry_read_raw_evt3, evt3, 10);
+    show_file(fry_read_raw_evt2, text, evt2, 8);
+    show_file(fry_read_raw_evt2, text, evt2, 12);
+    show_file(fry_read_raw_evt3, text, evt3, 8);
+    show_file(fry_read_raw_evt3, text, evt3, 10);
     const uint8_t dat[18] = {0x00, 0x08, 0x64, 0x00, 0x00, 0x00, 0x05, 0xc0, 0x00, 0x10, 0x63, 0x00, 0x00, 0x00, 0x05, 0xc0, 0x00, 0x10};
-    show_file(fry_read_dat, dat, 10);
-    show_file(fry_read_dat, dat, 18);
+    show_file(fry_read_dat, text, dat, 10);
+    show_file(fry_read_dat, text, dat, 18);
+    const uint8_t aedat[64] = {1, 0, 0, 0, 8, 0, 0, 0, 4, 0, 0, 0, 2, 0, 0, 0, 1, 0, 0, 0, 1, 0, 0, 0, 1, 0, 0, 0,
+                               0x0f, 0x00, 0x0a, 0x00, 0x07, 0x00, 0x00, 0x00, 5};
+    show_file(fry_read_aedat, lines, aedat, 36);
+    show_file(fry_read_aedat, lines, aedat, 64);
     return sizeof(fry_reading) == 24 && sizeof(fry_writing) == 16 && sizeof(fry_header) == 24 ? 0 : 1;
 }
-"#;
+"##;
 
 const EXPECTED: &str = "\
 0 3 4294967303 16384 32768 0 131 65405 262 0 3f800000 c0000000 00000000 3f800000 bf800000 40000000 00000000
@@ -117,6 +123,8 @@ const EXPECTED: &str = "\
 3 1 34 1 4098 0 5 3 1 0 0 0 0 7 7 7 7 7 7 7 7 7 7
 0 1 0 1 100 0 5 3 1 0 0 0 0 7 7 7 7 7 7 7 7 7 7
 5 1 36 1 100 0 5 3 1 0 0 0 0 7 7 7 7 7 7 7 7 7 7
+0 1 0 1 7 1 5 3 1 0 0 0 0 7 7 7 7 7 7 7 7 7 7
+10 1 78 1 7 1 5 3 1 0 0 0 0 7 7 7 7 7 7 7 7 7 7
 ";
 
 #[test]

@@ -1,12 +1,12 @@
 //! The RAW readers of the library against the second implementation: headers of every rule before words of every fault, and files that are
 //! made up, damaged, cut and short of room.
-#[path = "common/files.rs"]
-mod files;
+#[path = "common/text_header_files.rs"]
+mod text_header_files;
 
-use files::{compare_all, compare_longest, Reached};
 use fryskelom::samples::{evt2, evt3, Numbers, Picture};
 use fryskelom::second::words::Reading;
 use fryskelom::{raw_evt2_numbers, raw_evt3_numbers, second};
+use text_header_files::{compare_all, compare_longest, Reached};
 
 #[derive(Default)]
 struct Evt2;

@@ -14,6 +14,7 @@
 // specs/Lines.antt says what the lines are, specs/Packets.antt what a packet's header says and a packet gives, specs/Events.antt what an event
 // does, specs/Specials.antt what the special types mean, specs/Reader.antt what any bytes give.
 mod event;
+mod events;
 mod lines;
 mod marks;
 mod number;

@@ -4,6 +4,7 @@ use Prim.Native.Nat.{ℕ, zero, suc, _+_, _*_, _/_, _%_, _^_, _<_}
 use native.Mathlib.Omega.{arith}
 use native.Mathlib.Nat.{zero-div, zero-mod, div-one, mod-one}
 use mathlib.Core.List.{List, [], _∷_}
+use lib.Dec.{lit<}
 use lib.ListN.{take, drop, getD}
 use lib.Pow.{shr-shr, mod-pow-add}
 use lib.Seq.{getD-drop}
@@ -18,6 +19,16 @@ bytes-after c l h i = h (suc i)
 
 bytes-from : (l : List ℕ) → Bytes l → (k : ℕ) → Bytes (drop k l)
 bytes-from l h k i = rw (getD-drop) (h (k + i))
+
+bytes-first : (l : List ℕ) → Bytes l → (k : ℕ) → Bytes (take k l)
+bytes-first l h zero i = lit< tt
+bytes-first [] h (suc k) i = lit< tt
+bytes-first (c ∷ l) h (suc k) zero = h 0
+bytes-first (c ∷ l) h (suc k) (suc i) = bytes-first l (bytes-after c l h) k i
+
+-- and a part of them
+pub bytes-part : (l : List ℕ) → Bytes l → (at k : ℕ) → Bytes (take k (drop at l))
+bytes-part l h at k = bytes-first (drop at l) (bytes-from l h at) k
 
 -- what lies above the first k bytes
 value-above : (l : List ℕ) → Bytes l → (k : ℕ) → value l / 2 ^ (k * 8) ≡ value (drop k l)

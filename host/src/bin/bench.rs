@@ -1,13 +1,13 @@
 //! Rows per second of the library's readers and writers beside ones made by hand in Rust, into the same buffer in one run.
 //! They work in turn, and the middle one of each one's times counts. Nothing here passes or fails by its time.
-use fryskelom::samples::{dat, evt2, evt3, Numbers, Picture};
-use fryskelom::{fast, read_dat, read_evt2, read_evt3, write_evt2, write_evt3};
+use fryskelom::samples::{aedat, dat, evt2, evt3, Numbers, Picture};
+use fryskelom::{fast, read_aedat, read_dat, read_evt2, read_evt3, write_evt2, write_evt3};
 use std::hint::black_box;
 use std::time::Instant;
 
 const PICTURE: Picture = (1_280, 720);
 const ROUNDS: usize = 15;
-const STREAMS: [(&str, Measure); 14] = [
+const STREAMS: [(&str, Measure); 16] = [
     ("EVT3, single pixels", |events| reading_evt3(evt3::Scene::Pixels, events)),
     ("EVT3, dense vectors", |events| reading_evt3(evt3::Scene::Dense, events)),
     ("EVT3, sparse vectors", |events| reading_evt3(evt3::Scene::Sparse, events)),
@@ -16,6 +16,8 @@ const STREAMS: [(&str, Measure); 14] = [
     ("EVT2, mixed with IMU", |events| reading_evt2(evt2::Scene::Mixed, events)),
     ("EVT2, mostly IMU", |events| reading_evt2(evt2::Scene::Motion, events)),
     ("DAT", reading_dat),
+    ("AEDAT, pixels", |events| reading_aedat(aedat::Scene::Pixels, events)),
+    ("AEDAT, mixed", |events| reading_aedat(aedat::Scene::Mixed, events)),
     ("EVT2 written, pixels", |events| writing_evt2(evt2::Scene::Pixels, events)),
     ("EVT2 written, mixed", |events| writing_evt2(evt2::Scene::Mixed, events)),
     ("EVT3 written, single pixels", |events| writing_evt3(evt3::Scene::Pixels, events)),
@@ -24,7 +26,7 @@ const STREAMS: [(&str, Measure); 14] = [
     ("EVT3 written, mixed", |events| writing_evt3(evt3::Scene::Mixed, events)),
 ];
 /// Of these it is also shown what a row costs as they grow.
-const GROWING: [usize; 5] = [3, 5, 7, 9, 13];
+const GROWING: [usize; 6] = [3, 5, 7, 9, 11, 15];
 
 /// Times a stream of at least so many events.
 type Measure = fn(usize) -> Measured;
@@ -77,6 +79,13 @@ fn reading_dat(events: usize) -> Measured {
     let bytes = dat::recording(PICTURE, events, &mut numbers());
     let by_hand = |bytes: &[u8], rows: &mut [u32]| fast::dat::read(bytes, rows).expect("no refusal");
     let library = |bytes: &[u8], rows: &mut [u32]| read_dat(bytes, rows).expect("no refusal");
+    reading(&bytes, events, [by_hand, library])
+}
+
+fn reading_aedat(scene: aedat::Scene, events: usize) -> Measured {
+    let bytes = aedat::recording(scene, PICTURE, 0, events, &mut numbers());
+    let by_hand = |bytes: &[u8], rows: &mut [u32]| fast::aedat::read(bytes, rows).expect("no refusal");
+    let library = |bytes: &[u8], rows: &mut [u32]| read_aedat(bytes, rows).expect("no refusal");
     reading(&bytes, events, [by_hand, library])
 }
 

@@ -2,6 +2,7 @@
 //! the library.
 use crate::{Fault, Refusal, RowFault};
 
+pub mod aedat;
 pub mod dat;
 pub mod evt2;
 pub mod evt3;

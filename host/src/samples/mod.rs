@@ -1,5 +1,6 @@
 //! Inputs made up for tests and the benchmark; the same ones in every run.
 
+pub mod aedat;
 pub mod dat;
 pub mod evt2;
 pub mod evt3;

@@ -1,7 +1,7 @@
 //! DAT files: a text header, a type and a size, then events of eight bytes.
 use super::header;
 use super::rows::row;
-use super::words::Reading;
+use super::words::{number, Reading};
 
 /// The most columns or lines of a picture.
 const SIDE: u32 = 16_384;
@@ -19,7 +19,6 @@ struct Event {
 
 impl Event {
     fn of_bytes(bytes: &[u8; 8]) -> Event {
-        let number = |bytes: &[u8]| bytes.iter().rev().fold(0, |number, &byte| 256 * number + u64::from(byte));
         let (time, word) = (number(&bytes[..4]), number(&bytes[4..]));
         Event { time, x: word % 16_384, y: word / 16_384 % 16_384, polarity: word / 268_435_456 }
     }

@@ -1,7 +1,7 @@
 //! The reader and the writer of EVT2 words. The reader looks ahead: where a group begins, it takes all of its words at once, so that no
 //! group is ever half read.
 use super::rows::{row, time_of, Row};
-use super::words::{self, refusal_before_words, Format, Reading, Writing};
+use super::words::{self, number, refusal_before_words, Format, Reading, Writing};
 
 const OFF: u32 = 0;
 const ON: u32 = 1;
@@ -22,7 +22,7 @@ impl Word {
     /// The word whose first byte is at a place; nothing where the input ends before its last one.
     fn at(bytes: &[u8], place: usize) -> Option<Word> {
         let bytes = bytes.get(place..place + 4)?;
-        Some(Word(bytes.iter().rev().fold(0, |number, &byte| 256 * number + u32::from(byte))))
+        Some(Word(number(bytes) as u32))
     }
 
     /// The bits from `top` down to `bottom`.

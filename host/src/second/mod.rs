@@ -3,6 +3,7 @@
 //! It favours the plainest way of saying a rule over speed: tables of limits, whole-number arithmetic, nothing shared
 //! with the library under test.
 
+pub mod aedat;
 pub mod dat;
 pub mod evt2;
 pub mod evt3;

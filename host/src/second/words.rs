@@ -37,6 +37,11 @@ pub fn refusal_before_words(bytes: &[u8], width: u32, height: u32) -> u64 {
     }
 }
 
+/// The number that bytes make, low byte first.
+pub fn number(bytes: &[u8]) -> u64 {
+    bytes.iter().rev().fold(0, |number, &byte| 256 * number + u64::from(byte))
+}
+
 /// What a writing is to answer.
 #[derive(Debug, PartialEq, Eq)]
 pub struct Writing {

@@ -23,18 +23,23 @@ impl<W> Case<W> {
     pub const PLAIN: Case<W> = Case { name: "", before: &[], words: &[], part: &[], picture: (2_048, 2_048), room: 16, rows: &[], fault: None };
 }
 
-/// Reads the cases, each into a buffer of sevens that is a few numbers longer than its room, and looks at all of it afterwards.
+/// Reads the cases.
 pub fn check<W: Copy>(cases: &[Case<W>], bytes_of: fn(&[W]) -> Vec<u8>, reader: impl Fn(&[u8], u32, u32, &mut [u32]) -> Result<usize, Fault>) {
     for case in cases {
         let bytes = [bytes_of(&[case.before, case.words].concat()), case.part.to_vec()].concat();
-        let mut rows = vec![7; 10 * case.room + 9];
-        let mut expected = rows.clone();
-        expected[..10 * case.rows.len()].copy_from_slice(case.rows.as_flattened());
-        let answer = reader(&bytes, case.picture.0, case.picture.1, &mut rows);
-        let fault = |(refusal, place)| Fault { refusal: Refusal(refusal), rows: case.rows.len(), place };
-        assert_eq!(answer, case.fault.map(fault).map_or(Ok(case.rows.len()), Err), "{}", case.name);
-        assert_eq!(rows, expected, "{}", case.name);
+        let (width, height) = case.picture;
+        expect(case.name, case.room, case.rows, case.fault, |rows| reader(&bytes, width, height, rows));
     }
+}
+
+/// Reads into a buffer of sevens that is a few numbers longer than its room, and looks at all of it afterwards.
+pub fn expect(name: &str, room: usize, rows: &[[u32; 10]], fault: Option<(u64, usize)>, reader: impl Fn(&mut [u32]) -> Result<usize, Fault>) {
+    let mut buffer = vec![7; 10 * room + 9];
+    let mut expected = buffer.clone();
+    expected[..10 * rows.len()].copy_from_slice(rows.as_flattened());
+    let fault = fault.map(|(refusal, place)| Fault { refusal: Refusal(refusal), rows: rows.len(), place });
+    assert_eq!(reader(&mut buffer), fault.map_or(Ok(rows.len()), Err), "{name}");
+    assert_eq!(buffer, expected, "{name}");
 }
 
 /// The second implementation as a reader into a buffer.

@@ -1,23 +1,18 @@
 //! What the tests of all readers of words share: a reader is held to the second implementation, on inputs of its format's own and on
 //! recordings that are made up, damaged, cut and short of room.
+#[path = "answer.rs"]
+mod answer;
 #[path = "lent.rs"]
 mod lent;
 
+pub use answer::answer;
 use fryskelom::samples::{Numbers, Picture};
 use fryskelom::second::words::Reading;
-use fryskelom::Fault;
 pub use lent::Answer;
 
 pub type Reader = fn(&[u8], u32, u32, &mut [u32]) -> Answer;
 
 pub const LARGEST: Picture = (2_048, 2_048);
-
-pub fn answer(reading: Result<usize, Fault>) -> Answer {
-    match reading {
-        Ok(rows) => (0, rows as u64, 0),
-        Err(fault) => (fault.refusal.0, fault.rows as u64, fault.place as u64),
-    }
-}
 
 /// A format of words, and what its inputs have reached.
 pub trait Reached: Default {

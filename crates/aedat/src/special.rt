@@ -9,7 +9,7 @@ pub(crate) enum Meaning {
 }
 
 // The types that 001 defines, in order: 2 × channel + edge where a type is an edge, and else 8.
-const EDGES: [u8; 18] = [8, 8, 1, 0, 8, 8, 3, 2, 8, 5, 4, 8, 7, 6, 8, 8, 8, 8];
+const EDGES: [u32; 18] = [8, 8, 1, 0, 8, 8, 3, 2, 8, 5, 4, 8, 7, 6, 8, 8, 8, 8];
 
 impl Meaning {
     // The meaning of a type; types that the table does not have are special events.
@@ -24,8 +24,8 @@ impl Meaning {
             return Meaning::Other;
         }
         Meaning::Edge {
-            channel: (edge / 2) as u32,
-            edge: (edge % 2) as u32,
+            channel: edge / 2,
+            edge: edge % 2,
         }
     }
 }

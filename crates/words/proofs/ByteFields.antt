@@ -1,11 +1,11 @@
 -- Fields of whole bytes: the number that bytes make, divided into the bytes above a place and those below.
-use mathlib.Core.Path.{_≡_, refl, sym, _∙_, ap}
+use mathlib.Core.Path.{_≡_, sym, _∙_, ap}
 use Prim.Native.Nat.{ℕ, zero, suc, _+_, _*_, _/_, _%_, _^_, _<_}
 use native.Mathlib.Omega.{arith}
 use native.Mathlib.Nat.{zero-div, zero-mod, div-one, mod-one}
 use mathlib.Core.List.{List, [], _∷_}
 use lib.Dec.{lit<}
-use lib.ListN.{take, drop, getD}
+use lib.ListN.{take, drop}
 use lib.Pow.{shr-shr, mod-pow-add}
 use lib.Seq.{getD-drop}
 use Rattle.words.specs.Words.{value}

@@ -65,7 +65,7 @@ pub fn word16(a: u8, b: u8) -> u64
 pub fn word32(a: u8, b: u8, c: u8, d: u8) -> u64
     ensures { λ r. ⌜ r ≡ value (a ∷ b ∷ c ∷ d ∷ []) ⌝ }
 {
-    a as u64 + 256 * b as u64 + 65536 * c as u64 + 16777216 * d as u64
+    16777216 * d as u64 + 65536 * c as u64 + 256 * b as u64 + a as u64
 }
 
 pub fn word64(a: u8, b: u8, c: u8, d: u8, e: u8, f: u8, g: u8, h: u8) -> u64

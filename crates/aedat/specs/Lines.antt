@@ -60,6 +60,7 @@ lineStep Endless stage b = Stop BadHeader
 unfoldable pub stepOf : Stage → List ℕ → Step
 stepOf stage b = lineStep (lineEnd 1024 b 0) stage b
 
+-- which line comes after a good one
 abbrev pub stageAfter : Stage → Stage
 stageAfter Version = Format
 stageAfter Format = Further
@@ -76,5 +77,6 @@ unfoldable pub linesFrom : ℕ → Stage → List ℕ → ℕ → Lines
 linesFrom zero stage b place = Refused refusal.Cut place
 linesFrom (suc most) stage b place = stepThen (stepOf stage b) place (λ long. linesFrom most (stageAfter stage) (drop long b) (place + long))
 
+-- from the first byte of the file on
 unfoldable pub linesOf : List ℕ → Lines
 linesOf bytes = linesFrom (length bytes) Version bytes 0

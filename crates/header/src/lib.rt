@@ -11,7 +11,8 @@
 // first 256 bytes, or a width or height that is malformed, 0, over the limit or said before. A comma or a point in one of
 // them is malformed: it is never passed over, so that 12,5 is no 125.
 //
-// specs/Lines.antt says where a line ends, specs/Texts.antt when two texts are the same, specs/Sides.antt what it says of the picture, specs/Header.antt what any bytes give.
+// specs/Lines.antt says where a line ends, specs/Texts.antt when two texts are the same, specs/Sides.antt what a line says of the
+// picture, specs/Header.antt what any bytes give.
 mod line;
 mod number;
 mod reader;

@@ -1,9 +1,10 @@
 -- The words of rows: which rows have none, and how many the others have.
-use mathlib.Core.Path.{_≡_, refl}
+use mathlib.Core.Path.{_≡_, refl, _∙_, ap}
 use Prim.Native.Nat.{ℕ, _+_, _*_, _/_, _≤_}
 use native.Mathlib.Omega.{arith}
-use mathlib.Core.Bool.{Bool, true, false, cond, _&&_}
+use mathlib.Core.Bool.{Bool, true, false, cond, _&&_, not}
 use mathlib.Core.List.{List, [], _∷_, _++_}
+use mir.Val.{boolByte}
 use denote.Enum.Declared.{tagOf}
 use types.Run.{OneOf, miss}
 use lib.ListN.{length, length-append}
@@ -50,6 +51,15 @@ event-short ImuSingles r = omega arith
 event-short UsbPacket r = omega arith
 event-short Special r = omega arith
 event-short Other r = omega arith
+
+-- the high part takes a word where it was not told, as the code counts it
+pub clock-counted : (told : Bool) (old high : ℕ) {k : Bool} → k ≡ told && eqb old high → boolByte (not k) ≡ length (clockWords told old high)
+unfolding clockWords
+clock-counted told old high e = ap (λ (t : Bool). boolByte (not t)) e ∙ go (told && eqb old high)
+  where
+    go : (t : Bool) → boolByte (not t) ≡ length (cond t [] ((2147483648 + high) ∷ []))
+    go true = refl
+    go false = refl
 
 clock-short : (told : Bool) (old high : ℕ) → length (clockWords told old high) ≤ 1
 unfolding clockWords

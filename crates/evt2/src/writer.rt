@@ -25,12 +25,7 @@ fn judge(row: Row, last: u64) -> Judged
 {
     let kind = Kind::of(row.kind);
     match kind {
-        Kind::Pixel => {
-            if row.a < 2048 {
-                return rows::judge(Kind::Pixel, row, row.b < 2048, last);
-            }
-            Judged::Refused(Fault::BadRow)
-        }
+        Kind::Pixel => rows::judge(Kind::Pixel, row, (row.a < 2048) & (row.b < 2048), last),
         Kind::Trigger => rows::judge(Kind::Trigger, row, true, last),
         Kind::ImuCounts => rows::judge(Kind::ImuCounts, row, true, last),
         _ => Judged::Refused(Fault::BadRow),
@@ -54,20 +49,14 @@ fn event_length(row: Row) -> usize
 fn is_told(told: bool, last: u64, time: u64) -> bool
     ensures { λ r. ⌜ r ≡ told && eqb (last / 64) (time / 64) ⌝ }
 {
-    if told {
-        return last / 64 == time / 64;
-    }
-    false
+    told & (last / 64 == time / 64)
 }
 
 // How many words the high part of a time takes.
 fn clock_length(told: bool, last: u64, time: u64) -> usize
     ensures { λ r. ⌜ r ≡ length (clockWords told (last / 64) (time / 64)) ⌝ }
 {
-    if is_told(told, last, time) {
-        return 0;
-    }
-    1
+    !is_told(told, last, time) as usize
 }
 
 // Judges rows one after the other and counts their words: what is to be written if there is room.
@@ -107,7 +96,10 @@ fn put_word(out: &mut [u8], at: usize, word: u64) -> usize
     requires { ⌜ at + 4 ≤ length (now out) ⌝ }
     ensures { λ r. ⌜ PutWords 4 (word ∷ []) (now (out .entry)) at (now (out .exit)) r ⌝ }
 {
-    words::put(out, at, word, 4);
+    out[at] = (word % 256) as u8;
+    out[at + 1] = (word / 256 % 256) as u8;
+    out[at + 2] = (word / 65536 % 256) as u8;
+    out[at + 3] = (word / 16777216 % 256) as u8;
     at + 4
 }
 

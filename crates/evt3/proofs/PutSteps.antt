@@ -12,7 +12,7 @@ use Rattle.words.specs.Writer.{PutWords}
 use Rattle.words.proofs.Writes.{put-both, put-length, Writes, writes-start, writes-fit, writes-more, writes-done}
 use Rattle.evt3.specs.declared.span.Span.{Span}
 use Rattle.evt3.specs.declared.told.Told.{Told}
-use Rattle.evt3.specs.Spelling.{yWord, baseWord, vectorWord, lowWord, highWord, unless, highWords, wrapsOf, highOf, timeWords}
+use Rattle.evt3.specs.Spelling.{yWord, baseWord, vectorWord, lowWord, highWord, unless, highWords, wrapsOf, highOf, newTime, timeWords}
 use Rattle.evt3.specs.Walk.{spanWords, startWords, ownAs, otherWords}
 use Rattle.evt3.proofs.Lengths.{span-based}
 
@@ -75,28 +75,24 @@ module _ {ws old : List ℕ} {at left : ℕ} {set : Bool} {from high to : ℕ} {
 abbrev high-part : Told → ℕ → ℕ → List ℕ
 high-part told time n = highWords n (told .timed) (highOf (told .time)) (highOf time)
 
-module _ (told : Told) (time : ℕ) (old : List ℕ) (at : ℕ) {n : ℕ} (new : told .timed && eqb (told .time) time ≡ false) (is : n ≡ wrapsOf time - wrapsOf (told .time))
-    (room : at + length (timeWords (told .timed) (told .time) time) * 2 ≤ length old) where
-  both-parts : timeWords (told .timed) (told .time) time ≡ high-part told time n ++ (lowWord (time % 4096) ∷ [])
-  unfolding timeWords
-  both-parts = rw (new, is)
-
-  time-here : Writes 2 (timeWords (told .timed) (told .time) time) old at (high-part told time n ++ (lowWord (time % 4096) ∷ [])) at old
+module _ (told : Told) (time : ℕ) (old : List ℕ) (at : ℕ) {n : ℕ} (is : n ≡ wrapsOf time - wrapsOf (told .time))
+    (room : at + length (newTime (told .timed) (told .time) time) * 2 ≤ length old) where
+  time-here : Writes 2 (newTime (told .timed) (told .time) time) old at (high-part told time n ++ (lowWord (time % 4096) ∷ [])) at old
   time-here =
-      subst (λ (l : List ℕ). Writes 2 (timeWords (told .timed) (told .time) time) old at l at old) both-parts
-      (writes-start 2 (timeWords (told .timed) (told .time) time) old at)
+      subst (λ (k : ℕ). Writes 2 (newTime (told .timed) (told .time) time) old at (high-part told time k ++ (lowWord (time % 4096) ∷ [])) at old) (sym is)
+      (writes-start 2 (newTime (told .timed) (told .time) time) old at)
 
   pub high-part-fits : at + length (highWords n (told .timed) (highOf (told .time)) (highOf time)) * 2 ≤ length old
   high-part-fits = writes-fit (high-part told time n) (lowWord (time % 4096) ∷ []) time-here room
 
   module _ {to : ℕ} {buf : List ℕ} (p : PutWords 2 (highWords n (told .timed) (highOf (told .time)) (highOf time)) old at buf to) where
-    low-here : Writes 2 (timeWords (told .timed) (told .time) time) old at (lowWord (time % 4096) ∷ []) to buf
+    low-here : Writes 2 (newTime (told .timed) (told .time) time) old at (lowWord (time % 4096) ∷ []) to buf
     low-here = writes-more (high-part told time n) time-here p
 
     pub low-fits : to + 2 ≤ length buf
     low-fits = last-fit (lowWord (time % 4096) ∷ []) low-here room
 
-    pub time-put : {end : ℕ} {buf′ : List ℕ} → PutWords 2 (lowWord (time % 4096) ∷ []) buf to buf′ end → PutWords 2 (timeWords (told .timed) (told .time) time) old at buf′ end
+    pub time-put : {end : ℕ} {buf′ : List ℕ} → PutWords 2 (lowWord (time % 4096) ∷ []) buf to buf′ end → PutWords 2 (newTime (told .timed) (told .time) time) old at buf′ end
     time-put q = last-put (lowWord (time % 4096) ∷ []) low-here q
 
 -- the type of ADDR_Y is 0

@@ -29,12 +29,7 @@ fn judge(row: Row, last: u64) -> Judged
 {
     let kind = Kind::of(row.kind);
     match kind {
-        Kind::Pixel => {
-            if row.a < 2048 {
-                return rows::judge(Kind::Pixel, row, row.b < 2048, last);
-            }
-            Judged::Refused(Fault::BadRow)
-        }
+        Kind::Pixel => rows::judge(Kind::Pixel, row, (row.a < 2048) & (row.b < 2048), last),
         Kind::Trigger => rows::judge(Kind::Trigger, row, row.a < 16, last),
         _ => Judged::Refused(Fault::BadRow),
     }

@@ -16,13 +16,21 @@ use Rattle.rows.specs.declared.rules.Judged.the-variants.{Time, Refused}
 use Rattle.rows.specs.Row.{timeOf, roomOf, rowFrom, rowsFrom, rowsOf}
 use Rattle.rows.specs.Rules.{kindOf, goodAs, goodRow, judgedBy, judgedAs, judgedOf, accepted, refused, verdictThen, verdictFrom, goodLength, verdictOf, Writable}
 
--- a good row that the format can write is judged by its time t
-module _ (r : Row) {good writable : Bool} {t : ℕ} (last : ℕ) (g : good ≡ true) (w : writable ≡ true) (e : t ≡ timeOf r) where
-  pub judged-back : t < last → Refused BadTime ≡ judgedBy good writable r last
-  judged-back h = simp (g, w, lt-ltb (timeOf r) last (subst (λ (k : ℕ). k < last) e h))
+-- a row is judged by an answer to whether it is good, joined with whether the format can write it
+module _ (r : Row) {answer good : Bool} (writable : Bool) (last : ℕ) (e : answer ≡ good) where
+  joined : {b : Bool} → answer && writable ≡ b → good && writable ≡ b
+  joined {b} h = subst (λ (g : Bool). g && writable ≡ b) e h
 
-  pub judged-time : last ≤ t → Time t ≡ judgedBy good writable r last
-  judged-time h = simp (g, w, le-ltb (timeOf r) last (subst (λ (k : ℕ). last ≤ k) e h)) (ap Time e)
+  pub judged-bad : answer && writable ≡ false → Refused BadRow ≡ judgedBy good writable r last
+  judged-bad h = simp (joined h)
+
+  -- where both are so, by its time t
+  module _ {t : ℕ} (h : answer && writable ≡ true) (is : t ≡ timeOf r) where
+    pub judged-back : t < last → Refused BadTime ≡ judgedBy good writable r last
+    judged-back l = simp (joined h, lt-ltb (timeOf r) last (subst (λ (k : ℕ). k < last) is l))
+
+    pub judged-time : last ≤ t → Time t ≡ judgedBy good writable r last
+    judged-time l = simp (joined h, le-ltb (timeOf r) last (subst (λ (k : ℕ). last ≤ k) is l)) (ap Time is)
 
 -- the rules of a row's own kind are those of the row
 judged-own : (r : Row) (writable : Bool) (last : ℕ) {k : Kind} → kindOf (r .kind) ≡ k → judgedAs k writable r last ≡ judgedOf writable r last

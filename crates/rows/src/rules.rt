@@ -40,45 +40,19 @@ impl Kind {
     }
 }
 
-// Whether five data numbers are all 0, as unused ones are. A caller with fewer passes 0.
+// Whether five data numbers are all 0, as unused ones are. A caller with fewer passes 0. Here and below all tests are made and joined
+// by `&`, with no branch for each: good rows meet every one of them.
 fn are_unused(c: u32, d: u32, e: u32, f: u32, g: u32) -> bool
     ensures { λ r. ⌜ r ≡ unused (c ∷ d ∷ e ∷ f ∷ g ∷ []) ⌝ }
 {
-    if c != 0 {
-        return false;
-    }
-    if d != 0 {
-        return false;
-    }
-    if e != 0 {
-        return false;
-    }
-    if f != 0 {
-        return false;
-    }
-    g == 0
+    (c == 0) & ((d == 0) & ((e == 0) & ((f == 0) & (g == 0))))
 }
 
 // Whether six data numbers are all below a limit.
 fn are_below(limit: u32, a: u32, b: u32, c: u32, d: u32, e: u32, f: u32) -> bool
     ensures { λ r. ⌜ r ≡ below limit (a ∷ b ∷ c ∷ d ∷ e ∷ f ∷ []) ⌝ }
 {
-    if limit <= a {
-        return false;
-    }
-    if limit <= b {
-        return false;
-    }
-    if limit <= c {
-        return false;
-    }
-    if limit <= d {
-        return false;
-    }
-    if limit <= e {
-        return false;
-    }
-    f < limit
+    (a < limit) & ((b < limit) & ((c < limit) & ((d < limit) & ((e < limit) & (f < limit)))))
 }
 
 // Whether a row's time is within the limit of 2^34 microseconds.
@@ -91,56 +65,35 @@ fn is_timely(row: Row) -> bool
 fn is_pixel(row: Row) -> bool
     ensures { λ r. ⌜ r ≡ goodAs Kind.Pixel row ⌝ }
 {
-    if !is_timely(row) {
-        return false;
-    }
-    if !are_below(32768, row.a, row.b, 0, 0, 0, 0) {
-        return false;
-    }
-    if 2 <= row.c {
-        return false;
-    }
-    are_unused(0, row.d, row.e, row.f, row.g)
+    let timely = is_timely(row);
+    let below = are_below(32768, row.a, row.b, 0, 0, 0, 0);
+    let unused = are_unused(0, row.d, row.e, row.f, row.g);
+    timely & below & (row.c < 2) & unused
 }
 
 // Whether a row has two data numbers below their limits and no others, as triggers and special events have.
 fn is_pair(row: Row, first: u32, second: u32) -> bool
     ensures { λ r. ⌜ r ≡ goodPair first second row ⌝ }
 {
-    if !is_timely(row) {
-        return false;
-    }
-    if first <= row.a {
-        return false;
-    }
-    if second <= row.b {
-        return false;
-    }
-    are_unused(row.c, row.d, row.e, row.f, row.g)
+    let timely = is_timely(row);
+    let unused = are_unused(row.c, row.d, row.e, row.f, row.g);
+    timely & (row.a < first) & (row.b < second) & unused
 }
 
 fn is_imu_counts(row: Row) -> bool
     ensures { λ r. ⌜ r ≡ goodAs Kind.ImuCounts row ⌝ }
 {
-    if !is_timely(row) {
-        return false;
-    }
-    if !are_below(65536, row.a, row.b, row.c, row.d, row.e, row.f) {
-        return false;
-    }
-    are_unused(0, 0, 0, 0, row.g)
+    let timely = is_timely(row);
+    let below = are_below(65536, row.a, row.b, row.c, row.d, row.e, row.f);
+    timely & below & (row.g == 0)
 }
 
 fn is_usb_packet(row: Row) -> bool
     ensures { λ r. ⌜ r ≡ goodAs Kind.UsbPacket row ⌝ }
 {
-    if row.time() != 0 {
-        return false;
-    }
-    if 2 <= row.a {
-        return false;
-    }
-    are_unused(0, 0, row.e, row.f, row.g)
+    let time = row.time();
+    let unused = are_unused(0, 0, row.e, row.f, row.g);
+    (time == 0) & (row.a < 2) & unused
 }
 
 // Whether a row keeps the rules of a kind.
@@ -181,15 +134,13 @@ pub fn good_length(rows: &[u32]) -> bool
 pub fn judge(kind: Kind, row: Row, writable: bool, last: u64) -> Judged
     ensures { λ r. ⌜ r ≡ judgedAs kind writable row last ⌝ }
 {
-    if !good_as(kind, row) {
-        return Judged::Refused(Fault::BadRow);
+    let good = good_as(kind, row);
+    if good & writable {
+        let time = row.time();
+        if time < last {
+            return Judged::Refused(Fault::BadTime);
+        }
+        return Judged::Time(time);
     }
-    if !writable {
-        return Judged::Refused(Fault::BadRow);
-    }
-    let time = row.time();
-    if time < last {
-        return Judged::Refused(Fault::BadTime);
-    }
-    Judged::Time(time)
+    Judged::Refused(Fault::BadRow)
 }

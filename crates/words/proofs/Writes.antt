@@ -26,12 +26,12 @@ all-append size (w ∷ a) b = ap (λ (l : List ℕ). bytesOf size w ++ l) (all-a
 pub put-none : (size : ℕ) (old : List ℕ) (at : ℕ) → PutWords size [] old at old at
 put-none size old at = record { place = omega arith; wrote = refl }
 
--- one word, by words::put
-pub put-one : {size w at : ℕ} {old new : List ℕ} {r : Bool} → PutWord old at size w new r → at + size ≤ length old → PutWords size (w ∷ []) old at new (at + size)
-put-one {size} {w} {at} {old} h f =
+-- one word, byte by byte
+pub put-stored : {size w at : ℕ} {old new : List ℕ} → new ≡ sets old at (bytesOf size w) → PutWords size (w ∷ []) old at new (at + size)
+put-stored {size} {w} {at} {old} h =
     record {
       place = omega arith;
-      wrote = h .wrote ∙ simp (le-leb _ _ f) (ap (sets old at) (sym (append-nil (bytesOf size w))));
+      wrote = h ∙ ap (sets old at) (sym (append-nil (bytesOf size w)));
     }
 
 -- some words after others

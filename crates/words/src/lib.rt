@@ -154,26 +154,6 @@ pub fn at64(bytes: &[u8], at: usize) -> Next
     first64(&bytes[at..])
 }
 
-// Stores the lowest two bytes of a word from the place `at` on.
-fn store16(out: &mut [u8], at: usize, word: u64)
-    requires { ⌜ at + 2 ≤ length (now out) ⌝ }
-    ensures { λ _. ⌜ now (out .exit) ≡ sets (now (out .entry)) at (bytesOf 2 word) ⌝ }
-{
-    out[at] = (word % 256) as u8;
-    out[at + 1] = (word / 256 % 256) as u8;
-}
-
-// Stores the lowest four.
-fn store32(out: &mut [u8], at: usize, word: u64)
-    requires { ⌜ at + 4 ≤ length (now out) ⌝ }
-    ensures { λ _. ⌜ now (out .exit) ≡ sets (now (out .entry)) at (bytesOf 4 word) ⌝ }
-{
-    out[at] = (word % 256) as u8;
-    out[at + 1] = (word / 256 % 256) as u8;
-    out[at + 2] = (word / 65536 % 256) as u8;
-    out[at + 3] = (word / 16777216 % 256) as u8;
-}
-
 // Stores the lowest `size` bytes of a word from the place `at` on.
 fn store(out: &mut [u8], at: usize, word: u64, size: usize)
     requires { ⌜ at + size ≤ length (now out) ⌝ }
@@ -198,14 +178,6 @@ pub fn put(out: &mut [u8], at: usize, word: u64, size: usize) -> bool
     }
     if out.len() - size < at {
         return false;
-    }
-    if size == 2 {
-        store16(out, at, word);
-        return true;
-    }
-    if size == 4 {
-        store32(out, at, word);
-        return true;
     }
     store(out, at, word, size);
     true

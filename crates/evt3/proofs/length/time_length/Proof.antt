@@ -1,11 +1,7 @@
 -- `evt3::length::time_length` meets its contract.
-use Rattle.evt3.proofs.SpelledLength.{high-short}
-use Rattle.evt3.proofs.Lengths.{time-length}
-use Prim.Native.Nat.{_/_, _%_}
-use Rattle.evt3.specs.Spelling.{timeWords}
-use native.Mathlib.Omega.{arith}
-use mathlib.Core.Path.{sym, _∙_}
-use borrow.Author.Needs.{needs}
+use Rattle.evt3.proofs.Lengths.{time-same, time-low, time-new}
+use lib.ListN.{length}
+use mathlib.Core.Path.{sym, _∙_, ap}
 use Rattle.evt3.proofs.length.time_length.Statement.{statement}
 use Rattle.evt3.proofs.length.time_length.Tie as tie
 
@@ -13,20 +9,27 @@ is-known-requires : tie.Need-is-known-requires
 is-known-requires c κs = tt
 
 returns : tie.Need-returns
-unfolding timeWords
-returns c = rw (sym (c .before .is-known .ensures) ∙ c .if1 .taken)
+returns c =
+    let a = c .before .before .args in
+    sym (ap length (time-same (a .told .timed) (a .told .time) (a .time) (sym (c .before .is-known .ensures) ∙ c .if1 .taken)))
 
-wraps-between-requires : tie.Need-wraps-between-requires
-wraps-between-requires c κs = tt
-
-high-length-requires : tie.Need-high-length-requires
-high-length-requires c κs = search needs
-
-add-result : tie.Need-add-result
-add-result c = omega (arith, c .high-length .ensures, c .before .before .wraps-between .ensures, high-short (c .before .before .wraps-between .result) (c .before .before .before .before .before .args .told .timed) (c .before .before .before .before .before .args .told .time / 4096 % 4096) (c .before .before .before .before .before .args .time / 4096 % 4096))
+is-known-requires-2 : tie.Need-is-known-requires-2
+is-known-requires-2 c κs = tt
 
 returns-2 : tie.Need-returns-2
-returns-2 c = time-length (c .before .before .before .before .before .args .told) (c .before .before .before .before .before .args .time) (sym (c .before .before .before .before .is-known .ensures) ∙ c .before .before .before .if1 .left) (c .before .before .wraps-between .ensures) (c .high-length .ensures)
+returns-2 c =
+    let new = c .before .before .before in
+    let a = new .before .before .args in
+    sym (ap length (time-low (a .told .timed) (a .told .time) (a .time) (sym (new .before .is-known .ensures) ∙ new .if1 .left) (sym (c .before .is-known2 .ensures) ∙ c .if2 .taken)))
+
+new-time-length-requires : tie.Need-new-time-length-requires
+new-time-length-requires c κs = tt
+
+returns-3 : tie.Need-returns-3
+returns-3 c =
+    let new = c .before .before .before .before in
+    let a = new .before .before .args in
+    c .new-time-length .ensures ∙ sym (ap length (time-new (a .told .timed) (a .told .time) (a .time) (sym (new .before .is-known .ensures) ∙ new .if1 .left)))
 
 pub time-length-spec : {M : Type 1} → statement M
 time-length-spec =
@@ -34,7 +37,7 @@ time-length-spec =
     (tie.spec
     is-known-requires
     returns
-    wraps-between-requires
-    high-length-requires
-    add-result
-    returns-2)
+    is-known-requires-2
+    returns-2
+    new-time-length-requires
+    returns-3)

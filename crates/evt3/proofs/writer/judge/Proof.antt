@@ -2,7 +2,6 @@
 use Rattle.evt3.proofs.OtherRows.{not-writable}
 use Rattle.evt3.specs.Spelling.{writable, writableAs}
 use Rattle.rows.proofs.Judged.{judged-kind, judged-wordless}
-use borrow.Author.Tests.{lt-ltb, le-ltb}
 use mathlib.Core.Path.{refl, sym, _∙_}
 use Rattle.evt3.proofs.writer.judge.Statement.{statement}
 use Rattle.evt3.proofs.writer.judge.Tie as tie
@@ -16,27 +15,34 @@ enum-told c = c .match .keys1
 judge-requires : tie.Need-judge-requires
 judge-requires c κs = tt
 
-returns : tie.Need-returns
-unfolding writable
-returns c = c .judge .ensures ∙ judged-kind writableAs (c .before .before .before .before .before .before .before .args .row) (c .before .before .before .before .before .before .before .args .last) (sym (c .before .before .before .before .before .before .of .ensures) ∙ c .before .before .before .before .enum-told .given .1) (rw (lt-ltb _ _ (c .before .before .if1 .taken)))
-
 enum-told-2 : tie.Need-enum-told-2
 enum-told-2 c = c .match .keys2
 
 judge-requires-2 : tie.Need-judge-requires-2
 judge-requires-2 c κs = tt
 
+returns : tie.Need-returns
+unfolding writable
+returns c =
+    let told = c .before .before .before in
+    let found = told .before .before in
+    let a = found .before .args in
+    c .judge .ensures ∙ judged-kind writableAs (a .row) (a .last) (sym (found .of .ensures) ∙ told .enum-told .given .1) refl
+
 returns-2 : tie.Need-returns-2
 unfolding writable
-returns-2 c = judged-wordless writableAs (c .before .before .before .before .before .args .row) (c .before .before .before .before .before .args .last) (sym (c .before .before .before .before .of .ensures) ∙ c .before .before .enum-told .given .1) (rw (le-ltb _ _ (c .if1 .left)))
+returns-2 c =
+    let told = c .before .before in
+    let found = told .before .before in
+    let a = found .before .args in
+    c .judge2 .ensures ∙ judged-kind writableAs (a .row) (a .last) (sym (found .of .ensures) ∙ told .enum-told2 .given .1) refl
 
 returns-3 : tie.Need-returns-3
 unfolding writable
-returns-3 c = c .judge2 .ensures ∙ judged-kind writableAs (c .before .before .before .before .before .args .row) (c .before .before .before .before .before .args .last) (sym (c .before .before .before .before .of .ensures) ∙ c .before .before .enum-told2 .given .1) refl
-
-returns-4 : tie.Need-returns-4
-unfolding writable
-returns-4 c = judged-wordless writableAs (c .before .before .args .row) (c .before .before .args .last) (sym (c .before .of .ensures)) (not-writable (c .before .of .result) (c .before .before .args .row) (c .match .keys3))
+returns-3 c =
+    let found = c .before in
+    let a = found .before .args in
+    judged-wordless writableAs (a .row) (a .last) (sym (found .of .ensures)) (not-writable (found .of .result) (a .row) (c .match .keys3))
 
 pub judge-spec : {M : Type 1} → statement M
 judge-spec =
@@ -45,9 +51,8 @@ judge-spec =
     of-requires
     enum-told
     judge-requires
-    returns
     enum-told-2
     judge-requires-2
+    returns
     returns-2
-    returns-3
-    returns-4)
+    returns-3)

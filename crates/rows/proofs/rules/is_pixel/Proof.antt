@@ -1,54 +1,20 @@
 -- `rows::rules::is_pixel` meets its contract.
-use Rattle.rows.proofs.Answered.{answered-no, answered-yes}
 use Rattle.rows.specs.Rules.{goodAs}
-use borrow.Author.Tests.{lt-ltb, le-ltb}
-use mathlib.Core.Path.{_∙_}
 use Rattle.rows.proofs.rules.is_pixel.Statement.{statement}
 use Rattle.rows.proofs.rules.is_pixel.Tie as tie
 
 is-timely-requires : tie.Need-is-timely-requires
 is-timely-requires c κs = tt
 
-returns : tie.Need-returns
-unfolding goodAs
-returns c = simp (answered-no (c .before .is-timely .ensures) (c .if1 .taken))
-
 are-below-requires : tie.Need-are-below-requires
 are-below-requires c κs = tt
-
-returns-2 : tie.Need-returns-2
-unfolding goodAs
-returns-2 c =
-    let first = c .before .before in
-    simp (answered-yes (first .before .is-timely .ensures) (first .if1 .left), answered-no (c .before .are-below .ensures) (c .if2 .taken))
-
-returns-3 : tie.Need-returns-3
-unfolding goodAs
-returns-3 c =
-    let second = c .before .before in
-    let first = second .before .before in
-    simp (answered-yes (first .before .is-timely .ensures) (first .if1 .left), answered-yes (second .before .are-below .ensures) (second .if2 .left), le-ltb _ _ (c .if3 .taken))
 
 are-unused-requires : tie.Need-are-unused-requires
 are-unused-requires c κs = tt
 
-returns-4 : tie.Need-returns-4
+returns : tie.Need-returns
 unfolding goodAs
-returns-4 c =
-    let third = c .before in
-    let second = third .before .before in
-    let first = second .before .before in
-    c .are-unused .ensures
-    ∙ simp (answered-yes (first .before .is-timely .ensures) (first .if1 .left), answered-yes (second .before .are-below .ensures) (second .if2 .left), lt-ltb _ _ (third .if3 .left))
+returns c = simp (c .before .before .before .is-timely .ensures, c .before .before .are-below .ensures, c .before .are-unused .ensures)
 
 pub is-pixel-spec : {M : Type 1} → statement M
-is-pixel-spec =
-    tie.close
-    (tie.spec
-    is-timely-requires
-    returns
-    are-below-requires
-    returns-2
-    returns-3
-    are-unused-requires
-    returns-4)
+is-pixel-spec = tie.close (tie.spec is-timely-requires are-below-requires are-unused-requires returns)

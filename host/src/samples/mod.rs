@@ -1,10 +1,12 @@
-//! Inputs made up for tests and the benchmark; the same ones in every run.
+//! Inputs made up for tests, the benchmark and the folder `samples/`; the same ones in every run.
 
 pub mod aedat;
 pub mod dat;
 pub mod evt2;
 pub mod evt3;
 pub mod header;
+pub mod recordings;
+pub mod relays;
 
 /// Width and height in pixels.
 pub type Picture = (u32, u32);

@@ -24,6 +24,11 @@ impl Reading {
     pub fn refused(self, refusal: u64, place: usize) -> Reading {
         Reading { refusal, place, ..self }
     }
+
+    /// What the library is to answer: the refusal, the number of finished rows and the place.
+    pub fn answer(&self) -> (u64, u64, u64) {
+        (self.refusal, self.rows.len() as u64, self.place as u64)
+    }
 }
 
 /// Why an input is refused before any of its words is looked at, or 0.
@@ -51,6 +56,13 @@ pub struct Writing {
     pub count: usize,
     /// What stands at the buffer's start afterwards.
     pub bytes: Vec<u8>,
+}
+
+impl Writing {
+    /// What the library is to answer: the refusal, and the number of words or the index of a row.
+    pub fn answer(&self) -> (u64, u64) {
+        (self.refusal, self.count as u64)
+    }
 }
 
 /// A format that lists are written in.

@@ -5,7 +5,9 @@ mod lent;
 
 use fryskelom::samples::Numbers;
 use fryskelom::second::words::Reading;
-pub use lent::Answer;
+
+/// The refusal, the finished rows and the place.
+pub type Answer = (u64, u64, u64);
 
 pub type Reader = fn(&[u8], &mut [u32]) -> Answer;
 
@@ -57,7 +59,7 @@ impl<R: Reached> Comparer<R> {
 
     fn hold(&mut self, bytes: &[u8], lent: usize, expected: Reading) {
         let input = || format!("{lent} numbers lent, {}", bytes[..bytes.len().min(8_192)].escape_ascii());
-        lent::hold(|rows| (self.reader)(bytes, rows), lent, &expected, input);
+        lent::hold(|rows| (self.reader)(bytes, rows), lent, expected.answer(), expected.rows.as_flattened(), input);
         self.inputs += 1;
         self.reached.count(bytes, &expected);
     }

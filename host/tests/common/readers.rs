@@ -8,7 +8,9 @@ mod lent;
 pub use answer::answer;
 use fryskelom::samples::{Numbers, Picture};
 use fryskelom::second::words::Reading;
-pub use lent::Answer;
+
+/// The refusal, the finished rows and the place.
+pub type Answer = (u64, u64, u64);
 
 pub type Reader = fn(&[u8], u32, u32, &mut [u32]) -> Answer;
 
@@ -67,7 +69,8 @@ impl<R: Reached> Comparer<R> {
 
     fn hold(&mut self, bytes: &[u8], picture: Picture, lent: usize, expected: Reading) {
         let input = || format!("picture {picture:?}, {lent} numbers lent, words {}", shown(bytes, R::SIZE));
-        lent::hold(|rows| (self.reader)(bytes, picture.0, picture.1, rows), lent, &expected, input);
+        let reader = |rows: &mut [u32]| (self.reader)(bytes, picture.0, picture.1, rows);
+        lent::hold(reader, lent, expected.answer(), expected.rows.as_flattened(), input);
         self.count(bytes, &expected);
     }
 

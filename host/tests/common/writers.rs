@@ -1,5 +1,7 @@
 //! What the tests of all writers of words share: a writer is held to the second implementation, on lists of its format's own and on those
 //! that every format is tried with. What was written is read back.
+#[path = "lent.rs"]
+mod lent;
 #[path = "lists.rs"]
 mod lists;
 
@@ -108,24 +110,14 @@ impl<R: Reached> Comparer<R> {
         }
     }
 
-    /// Lends the middle part of a buffer, so many bytes, to which those that are `missing` for the words would have to be added. Compares
-    /// the answer, and the whole buffer afterwards.
+    /// Compares with a buffer of so many bytes, to which those that are `missing` for the words would have to be added.
     pub fn compare_lent(&mut self, numbers: &[u32], lent: usize, missing: usize) {
-        // before and after it, as much as the words of a row
-        const AROUND: usize = 28;
         let expected = R::second(numbers, lent);
-        let mut buffer: Vec<u8> = (1..=(lent + 2 * AROUND) as u32).map(|i| (i.wrapping_mul(0x9e37_79b1) >> 24) as u8).collect();
-        let mut after = buffer.clone();
-        after[AROUND..][..expected.bytes.len()].copy_from_slice(&expected.bytes);
-
-        let answer = (self.writer)(numbers, &mut buffer[AROUND..AROUND + lent]);
         let input = || format!("{lent} bytes lent, rows {:?}", numbers.chunks(10).take(400).collect::<Vec<_>>());
-        assert_eq!(answer, (expected.refusal, expected.count as u64), "{}", input());
-        let changed = buffer.iter().zip(&after).position(|(is, should)| is != should);
-        assert_eq!(changed.map(|i| i as isize - AROUND as isize), None, "the first wrong byte; {}", input());
+        lent::hold(|out| (self.writer)(numbers, out), lent, expected.answer(), &expected.bytes, input);
         if expected.refusal == 0 {
             assert!(expected.count <= R::most_words(numbers.as_chunks().0), "more words than there may be; {}", input());
-            self.read_back(numbers, &buffer[AROUND..][..expected.bytes.len()]);
+            self.read_back(numbers, &expected.bytes);
         }
         self.count(numbers, missing, &expected);
     }

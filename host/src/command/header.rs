@@ -1,0 +1,99 @@
+//! What `info` says of a recording's header and picture. Where lines end and what they say is the library's answer.
+use super::formats::{Asked, Format, DAT_LIMIT, EVT_LIMIT};
+use super::recording::{Recording, Stop, MOST_BYTES};
+use fryskelom::{read_header, Header};
+
+/// The last line of the header of an AEDAT file.
+const AEDAT_END: &[u8] = b"#!END-HEADER\r\n";
+
+/// So many bytes of a line at fault are shown.
+const SHOWN: usize = 256;
+
+/// Lines on the header and on the picture.
+pub fn lines(recording: &Recording, stop: Option<Stop>) -> Vec<String> {
+    match recording.format {
+        Format::Evt2(asked) | Format::Evt3(asked) => of_words(asked),
+        _ if recording.bytes.len() > MOST_BYTES => vec!["header: not read, since the file is too long".to_string(), "picture: not known".to_string()],
+        Format::RawEvt2 | Format::RawEvt3 => of_text(&recording.bytes, EVT_LIMIT),
+        Format::Dat => of_text(&recording.bytes, DAT_LIMIT),
+        Format::Aedat => of_aedat(&recording.bytes, stop),
+    }
+}
+
+/// Bare words have no header, and the picture is as asked.
+fn of_words(Asked { width, height }: Asked) -> Vec<String> {
+    let side = |name: &str, asked: Option<u32>| match asked {
+        Some(pixels) => format!("picture {name}: {pixels} pixels"),
+        None => format!("picture {name}: {EVT_LIMIT} pixels, the limit, since no --{name} is given"),
+    };
+    vec!["header: none".to_string(), side("width", width), side("height", height)]
+}
+
+/// The text header of a RAW or DAT file.
+fn of_text(bytes: &[u8], limit: u32) -> Vec<String> {
+    match read_header(bytes, limit) {
+        Ok(header) => [shown(&bytes[..header.data], b"\n"), sides(bytes, limit, header)].concat(),
+        Err(fault) => [refused(bytes, fault.place, b"\n"), vec!["picture: not known".to_string()]].concat(),
+    }
+}
+
+/// The sides of the picture. One that changes with the limit is said by no line.
+fn sides(bytes: &[u8], limit: u32, header: Header) -> Vec<String> {
+    let other = read_header(bytes, limit + 1).expect("what is good below a limit is good below a higher one");
+    let side = |name: &str, pixels: u32, other: u32| match pixels == other {
+        true => format!("picture {name}: {pixels} pixels"),
+        false => format!("picture {name}: {pixels} pixels, the limit, since no line of the header says it"),
+    };
+    vec![side("width", header.width, other.width), side("height", header.height, other.height)]
+}
+
+/// The lines of an AEDAT file up to the end line. A fault in the header lies at the start of its line, so that those before are good.
+fn of_aedat(bytes: &[u8], stop: Option<Stop>) -> Vec<String> {
+    let good = match stop {
+        Some(Stop::Refused(fault)) => fault.place,
+        _ => bytes.len(),
+    };
+    let mut end = 0;
+    let header = loop {
+        match line_of(&bytes[end..good]) {
+            Some(AEDAT_END) => break shown(&bytes[..end + AEDAT_END.len()], b"\r\n"),
+            Some(line) => end += line.len(),
+            None => break refused(bytes, good, b"\r\n"),
+        }
+    };
+    [header, vec!["picture: an AEDAT file says none".to_string()]].concat()
+}
+
+/// The first line, its newline with it.
+fn line_of(bytes: &[u8]) -> Option<&[u8]> {
+    bytes.iter().position(|&byte| byte == b'\n').map(|newline| &bytes[..=newline])
+}
+
+fn shown(header: &[u8], newline: &[u8]) -> Vec<String> {
+    [vec![format!("header: the data begin at byte {}", header.len())], escaped(header, newline)].concat()
+}
+
+/// The lines before the one at fault, and the start of that one.
+fn refused(bytes: &[u8], place: usize, newline: &[u8]) -> Vec<String> {
+    let fault = &bytes[place..bytes.len().min(place + SHOWN)];
+    let fault = fault.split(|&byte| byte == b'\n').take(1).map(|line| format!("  > {}", escaped_line(line)));
+    let first = format!("header: refused at byte {place}, in the line marked >");
+    [vec![first], escaped(&bytes[..place], newline), fault.collect()].concat()
+}
+
+/// Lines as they stand, but for control characters and bytes that are not ASCII.
+fn escaped(lines: &[u8], newline: &[u8]) -> Vec<String> {
+    let lines = lines.split_inclusive(|&byte| byte == b'\n').map(|line| line.strip_suffix(newline).unwrap_or(line));
+    lines.map(|line| format!("    {}", escaped_line(line))).collect()
+}
+
+fn escaped_line(line: &[u8]) -> String {
+    line.iter().map(|&byte| escaped_byte(byte)).collect()
+}
+
+fn escaped_byte(byte: u8) -> String {
+    match byte {
+        b' '..=b'~' => char::from(byte).to_string(),
+        _ => byte.escape_ascii().to_string(),
+    }
+}

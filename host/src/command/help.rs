@@ -1,0 +1,82 @@
+//! The help texts.
+
+pub const SHORT: &str = "usage: ./fryskelom info FILE, rows FILE, convert IN OUT --to evt2|evt3, or refusals";
+
+pub const ALL: &str = "\
+Reads recordings of event cameras.
+
+  ./fryskelom info FILE                         what a recording holds: header, picture, numbers of events, times
+  ./fryskelom rows FILE                         its events as rows of ten numbers, or with --events in words
+  ./fryskelom convert IN OUT --to evt2|evt3     writes a recording anew as EVT2 or EVT3 words
+  ./fryskelom refusals                          why a recording is refused, by number, and what to do
+
+FILE and IN are files, or - for standard input.
+
+  --format FORMAT   evt2, evt3           bare words
+                    raw-evt2, raw-evt3   a RAW file of such words: a line such as `% evt 3.0` among its first lines usually tells which
+                    dat, aedat           a DAT file, an AEDAT 3.1 file: not needed where the name ends in .dat or .aedat
+  --width N         with evt2 and evt3 alone: the picture's pixels, 1 to 2048; 2048 where left out
+  --height N        likewise
+  --help, -h        this text, or after a command its own
+  --version         the version
+  --                what follows is no option
+
+Times are whole microseconds. No number has a separator of thousands, neither a comma nor a point, and none may be given: 1280 is right.
+A recording that breaks a rule is refused where it does: what was finished before is still shown, and the message says where and what to do.
+
+The exit status is 0 where all is well, 1 where a recording is refused or a file or memory is not to be had, 2 where the arguments are wrong.
+
+For example:
+  ./fryskelom info gate.dat
+  ./fryskelom rows --events gate.raw --format raw-evt3
+  ./fryskelom convert gate.aedat gate.evt2 --to evt2
+";
+
+pub const INFO: &str = "\
+./fryskelom info FILE [--format FORMAT] [--width N] [--height N]
+
+Prints the format, the size of the file, the lines of its header, the picture, how many events there are of each of the six kinds, and the
+first and the last time: the smallest and the largest, in whole microseconds. USB packets have no time and do not count there.
+If the recording is refused, all this is of the part before; the refusal follows on standard error, and the status is 1.
+
+For FORMAT and N see ./fryskelom --help.
+";
+
+pub const ROWS: &str = "\
+./fryskelom rows FILE [--events] [--format FORMAT] [--width N] [--height N]
+
+Prints a line for each row, of ten numbers: kind, time mod 4294967296, time div 4294967296, and seven numbers that the kind gives a meaning.
+
+  1 pixel         x, y, polarity (1 brighter, 0 darker)
+  2 trigger       channel, edge (1 rising, 0 falling)
+  3 IMU counts    acceleration X, Y, Z, rotation X, Y, Z, each 0 to 65535
+  4 IMU singles   the bits of seven singles: as kind 3, then the temperature
+  5 USB packet    flag, sequence count, system time div 4294967296 and mod 4294967296; its own time is 0
+  6 special       type, data
+
+  --events        the same in words, with the time in microseconds and IMU readings in g, degrees a second and degrees Celsius;
+                  the point in a reading is a decimal point
+
+If the recording is refused, the rows before are printed; the refusal follows on standard error, and the status is 1.
+
+For FORMAT and N see ./fryskelom --help.
+";
+
+pub const CONVERT: &str = "\
+./fryskelom convert IN OUT --to evt2|evt3 [--format FORMAT] [--width N] [--height N]
+
+Reads the recording IN and writes its rows as bare words, without a header, to the file OUT, or to standard output where OUT is -.
+FORMAT and N are those of IN; see ./fryskelom --help. OUT is written whole or not at all: where IN is refused or a row cannot be written,
+OUT stays as it was.
+
+  --to evt2       holds pixels below 2048 by 2048, triggers of channels 0 to 31 and IMU counts
+  --to evt3       holds pixels below 2048 by 2048 and triggers of channels 0 to 15
+
+The rows have to be in the order of time, and at most 16777216.
+";
+
+pub const REFUSALS: &str = "\
+./fryskelom refusals
+
+Prints the numbers of all refusals, what was found, and what to do.
+";

@@ -1,0 +1,72 @@
+//! `info`: what a recording holds.
+use super::arguments::Source;
+use super::events::KINDS;
+use super::progress::Progress;
+use super::recording::{time_of, Reading, Recording, MOST_BYTES};
+use super::{header, output, Failure};
+
+/// Prints format, size, header, picture, events and times of a recording, and then its refusal.
+pub fn print(source: &Source) -> Result<(), Failure> {
+    let mut progress = Progress::new();
+    let recording = Recording::load(source, &mut progress)?;
+    let reading = recording.read(&mut progress);
+    let lines = [about_file(&recording), header::lines(&recording, reading.stop), about_rows(&reading)].concat();
+    drop(progress);
+    output::write((lines.join("\n") + "\n").as_bytes())?;
+    reading.end(&recording)
+}
+
+fn about_file(recording: &Recording) -> Vec<String> {
+    let size = match recording.bytes.len() {
+        // no more was read
+        size if size > MOST_BYTES => format!("over {MOST_BYTES}"),
+        size => size.to_string(),
+    };
+    vec![
+        format!("file: {}", recording.name),
+        format!("format: {} ({})", recording.format.title(), recording.format.name()),
+        format!("size: {size} bytes"),
+    ]
+}
+
+fn about_rows(reading: &Reading) -> Vec<String> {
+    let summary = Summary::of(reading.numbers());
+    let part = if reading.stop.is_some() { " before the reading stopped" } else { "" };
+    let mut lines = vec![format!("events: {}{part}", reading.rows())];
+    lines.extend(KINDS.iter().zip(summary.kinds).map(|(kind, events)| format!("    {kind}: {events}")));
+    lines.extend(summary.times());
+    lines
+}
+
+/// How many rows there are of each kind, and the smallest and the largest time.
+#[derive(Default)]
+struct Summary {
+    kinds: [usize; 6],
+    times: Option<(u64, u64)>,
+}
+
+impl Summary {
+    fn of(numbers: &[u32]) -> Summary {
+        let mut summary = Summary::default();
+        for row in numbers.chunks_exact(10) {
+            summary.kinds[row[0] as usize - 1] += 1;
+            // a USB packet has no time
+            if row[0] != 5 {
+                let time = time_of(row);
+                let (first, last) = summary.times.unwrap_or((time, time));
+                summary.times = Some((first.min(time), last.max(time)));
+            }
+        }
+        summary
+    }
+
+    fn times(&self) -> [String; 3] {
+        let Some((first, last)) = self.times else {
+            return ["first time", "last time", "span"].map(|name| format!("{name}: none"));
+        };
+        let span = last - first;
+        // always six decimals, so that nobody takes the point for a separator of thousands
+        let seconds = format!("{}.{:06} s", span / 1_000_000, span % 1_000_000);
+        [format!("first time: {first} µs"), format!("last time: {last} µs"), format!("span: {span} µs, {seconds}")]
+    }
+}

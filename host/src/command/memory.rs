@@ -1,0 +1,41 @@
+//! Memory for rows, words and files that is asked for and may be refused, so that a long recording ends in a message.
+use std::alloc::{alloc_zeroed, Layout};
+
+/// So many bytes were asked for and refused.
+#[derive(Clone, Copy)]
+pub struct Lack(pub usize);
+
+impl Lack {
+    /// What is said where memory was for `what` of a recording, and how far the work has come.
+    pub fn message(self, what: &str, name: &str, state: &str) -> String {
+        format!(
+            "not enough memory: the system refused {} bytes for {what}\n\
+             {name} is too large to be read in one piece on this machine; {state}\n\
+             what to do: split the recording, or use a machine with more memory",
+            self.0
+        )
+    }
+}
+
+/// A number whose value is 0 where all its bits are.
+pub trait Number: Copy {}
+
+impl Number for u8 {}
+
+impl Number for u32 {}
+
+/// So many zeros. Those that are never touched take no memory, since the system gives zeroed pages when they are first used.
+pub fn zeros<T: Number>(length: usize) -> Result<Vec<T>, Lack> {
+    let lack = Lack(length.saturating_mul(size_of::<T>()));
+    let layout = Layout::array::<T>(length).map_err(|_| lack)?;
+    if layout.size() == 0 {
+        return Ok(vec![]);
+    }
+    // SAFETY: the layout's size is not 0.
+    let start = unsafe { alloc_zeroed(layout) }.cast::<T>();
+    if start.is_null() {
+        return Err(lack);
+    }
+    // SAFETY: the global allocator gave this memory for an array of `length` elements, and zeroed bits are an element of `T`.
+    Ok(unsafe { Vec::from_raw_parts(start, length, length) })
+}

@@ -1,0 +1,125 @@
+//! The fourteen refusals in plain words, and the messages that are made of them.
+use super::events;
+use fryskelom::{Fault, Refusal, RowFault};
+
+/// What was found, and what to do where a recording is read and where rows are written; empty where it is not refused so.
+struct Rule {
+    found: &'static str,
+    reading: &'static str,
+    writing: &'static str,
+}
+
+const RULES: [Rule; 14] = [
+    Rule { found: "the input is longer than 1073741824 bytes", reading: "split the recording, or record in shorter parts", writing: "" },
+    Rule {
+        found: "rows or bytes do not fit the buffer",
+        reading: "split the recording; a program that calls the library lends it a larger buffer",
+        writing: "lend a larger buffer; nothing has been written",
+    },
+    Rule {
+        found: "a word of a reserved type",
+        reading: "check that the format named with --format is the recording's; if it is, the file is damaged at this place",
+        writing: "",
+    },
+    Rule {
+        found: "the input ends inside a word, group, event, packet or header",
+        reading: "the file is cut: copy it again from the camera; the rows before this place are good",
+        writing: "",
+    },
+    Rule {
+        found: "a time goes back, is negative or passes the limit",
+        reading: "the camera's clock or the file is damaged at this place: do not use times after it",
+        writing: "rows are written in the order of time alone, and those of this recording are not in it: use them as ./fryskelom rows prints them",
+    },
+    Rule {
+        found: "a pixel outside the picture, or a polarity over 1",
+        reading: "check the width and height that were given or that the header says, and the format",
+        writing: "",
+    },
+    Rule { found: "the bit of a slave camera is set", reading: "record from one camera", writing: "" },
+    Rule {
+        found: "a word inside an IMU or USB group does not continue it",
+        reading: "words were lost at this place: record again, or use the rows before it",
+        writing: "",
+    },
+    Rule {
+        found: "a bad text header, or a bad type or size after it",
+        reading: "look at the line at this place; widths and heights are whole numbers without comma or point, each said once; check the format too",
+        writing: "",
+    },
+    Rule {
+        found: "a bad AEDAT packet",
+        reading: "the file is damaged at this place: copy it again from the camera, or use the rows before it",
+        writing: "",
+    },
+    Rule {
+        found: "the camera's clock was reset",
+        reading: "use the rows before this place, or record again: times after it count from another zero",
+        writing: "",
+    },
+    Rule {
+        found: "a bad row, or one that the format cannot write",
+        reading: "",
+        writing: "try the other words, or use the rows as ./fryskelom rows prints them: EVT2 holds pixels below 2048 by 2048, triggers and IMU counts, EVT3 \
+                  such pixels and triggers of channels 0 to 15",
+    },
+    Rule {
+        found: "a list whose length is no multiple of ten, or over 16777216 rows",
+        reading: "",
+        writing: "split the recording, or record in shorter parts",
+    },
+    Rule {
+        found: "a picture width or height of 0 or over 2048",
+        reading: "give --width and --height from 1 to 2048, or leave them out",
+        writing: "",
+    },
+];
+
+/// The most rows that a list can have.
+pub const MOST_ROWS: usize = 16_777_216;
+
+/// A reader's refusal.
+pub fn reading(fault: &Fault, name: &str) -> String {
+    let Fault { refusal, rows, place } = *fault;
+    message(refusal, &format!("at byte {place} of {name} (counted from 0); {} before it", finished(rows)), |rule| rule.reading)
+}
+
+/// A writer's refusal of the rows of a recording.
+pub fn writing(fault: &RowFault, name: &str, numbers: &[u32]) -> String {
+    let RowFault { refusal, row } = *fault;
+    let place = match refusal {
+        // no row is at fault
+        Refusal(13) => format!("{name} has {} rows, and at most {MOST_ROWS} can be written", numbers.len() / 10),
+        _ => format!("at row {row} of {name} (counted from 0): {}", events::line(&numbers[10 * row..][..10])),
+    };
+    message(refusal, &format!("{place}; nothing was written"), |rule| rule.writing)
+}
+
+/// The number, plain words, the place, and what to do.
+fn message(Refusal(number): Refusal, place: &str, advice: fn(&Rule) -> &str) -> String {
+    let rule = &RULES[number as usize - 1];
+    format!("refused {number}: {}\n{place}\nwhat to do: {}", rule.found, advice(rule))
+}
+
+/// So many rows were finished.
+pub fn finished(rows: usize) -> String {
+    match rows {
+        1 => "1 row was finished".to_string(),
+        _ => format!("{rows} rows were finished"),
+    }
+}
+
+/// All refusals.
+pub fn table() -> String {
+    RULES.iter().zip(1..).map(|(rule, number)| format!("{number:>2}  {}\n{}", rule.found, rule.advice())).collect()
+}
+
+impl Rule {
+    /// What to do, in lines of their own.
+    fn advice(&self) -> String {
+        match (self.reading, self.writing) {
+            (advice, "") | ("", advice) => format!("    what to do: {advice}\n"),
+            (reading, writing) => format!("    what to do when reading: {reading}\n    what to do when writing: {writing}\n"),
+        }
+    }
+}

@@ -1,0 +1,19 @@
+//! The command, run as a program: what it prints, its messages and its status.
+#[path = "command/convert.rs"]
+mod convert;
+#[path = "command/info.rs"]
+mod info;
+#[path = "command/inputs.rs"]
+mod inputs;
+#[path = "command/limits.rs"]
+mod limits;
+#[path = "command/refusals.rs"]
+mod refusals;
+#[path = "command/rows.rs"]
+mod rows;
+#[path = "command/run.rs"]
+mod run;
+#[path = "command/script.rs"]
+mod script;
+#[path = "command/usage.rs"]
+mod usage;

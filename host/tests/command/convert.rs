@@ -1,0 +1,187 @@
+//! `convert`: what is written, what it reads back as, and that nothing is left where it fails.
+use super::inputs::{self, evt2_words, evt3_words, EVT3_ROWS};
+use super::run::{files, folder, run, run_after, run_fed, run_on};
+use fryskelom::samples::{aedat, dat, evt2, evt3, Numbers};
+use std::fs;
+use std::os::unix::fs::symlink;
+use std::process::Command;
+
+#[test]
+fn reading_back() {
+    let folder = folder("reading-back");
+    let mut numbers = Numbers::new(0x6b1f_92c4_0d37_e85b);
+    let (picture, events) = ((1_280, 720), 3_000);
+    let inputs = [
+        ("evt2", evt2::recording(evt2::Scene::Pixels, picture, 0, events, &mut numbers)),
+        ("evt3", evt3::recording(evt3::Scene::Sparse, picture, 0, events, &mut numbers)),
+        ("dat", dat::recording(picture, events, &mut numbers)),
+        ("aedat", aedat::recording(aedat::Scene::Pixels, picture, 5 << 31, events, &mut numbers)),
+    ];
+    for (format, bytes) in inputs {
+        let rows = run_on(&folder, &bytes, &["rows", "recording", "--format", format]).good();
+        for words in ["evt2", "evt3"] {
+            run(&folder, &["convert", "recording", "out", "--format", format, "--to", words]).good();
+            let back = run(&folder, &["rows", "out", "--format", words]).good();
+            assert!(back.stdout == rows.stdout, "{format} to {words}");
+        }
+    }
+    assert_eq!(files(&folder), ["out", "recording"]);
+}
+
+/// The EVT2 words without the packet, and in the order of time: clock, trigger, IMU reading and pixel.
+fn in_order() -> Vec<u8> {
+    let words = evt2_words();
+    [&words[20..24], &words[28..], &words[24..28]].concat()
+}
+
+const BACK: &str = "to read it back: --format";
+
+#[test]
+fn the_report() {
+    let folder = folder("report");
+    let run_to = |words| run_on(&folder, &in_order(), &["convert", "recording", "a file", "--format=evt2", "--to", words]).good();
+    assert_eq!(run_to("evt2").text(), format!("a file: written; rows: 3, evt2 words: 9, bytes: 36\n{BACK} evt2\n"));
+    assert_eq!(fs::read(folder.join("a file")).expect("it was written"), in_order());
+    let run = run_on(&folder, &evt3_words(), &["convert", "recording", "a file", "--format=evt3", "--to=evt3"]).good();
+    assert_eq!(run.text(), format!("a file: written; rows: 5, evt3 words: 12, bytes: 24\n{BACK} evt3\n"));
+    assert_eq!(super::run::run(&folder, &["rows", "a file", "--format", "evt3"]).good().text(), EVT3_ROWS);
+}
+
+#[test]
+fn standard_input_and_output() {
+    let run = run_fed(&folder("to-standard-output"), &in_order(), &["convert", "-", "-", "--format", "evt2", "--to", "evt2"]);
+    assert_eq!((run.status, &run.stdout), (Some(0), &in_order()));
+    assert_eq!(run.stderr, format!("written; rows: 3, evt2 words: 9, bytes: 36\n{BACK} evt2\n"));
+}
+
+#[test]
+fn no_rows() {
+    let folder = folder("convert-no-rows");
+    for words in ["evt2", "evt3"] {
+        let run = run_on(&folder, &[], &["convert", "recording", "out", "--format=evt2", "--to", words]).good();
+        assert!(run.text().starts_with(&format!("out: written; rows: 0, {words} words: 0, bytes: 0\n")), "{run:?}");
+        assert_eq!(fs::read(folder.join("out")).expect("it was written"), []);
+    }
+}
+
+#[test]
+fn the_most_words_for_a_row() {
+    let folder = folder("most-words");
+    // an IMU reading after the clock, and a pixel after all wraps of it
+    let cases = [
+        (&[0x8000_0000, 0xd000_0000, 0xf000_0000, 0xf000_0000, 0xf000_0000, 0xf000_0000, 0xf000_0000][..], "evt2", "words: 7, bytes: 28"),
+        (&[0x8fff_ffff, 0x1fc0_0000], "evt3", "words: 2050, bytes: 4100"),
+    ];
+    for (recording, words, written) in cases {
+        let run = run_on(&folder, &evt2::bytes_of(recording), &["convert", "recording", "out", "--format", "evt2", "--to", words]).good();
+        assert_eq!(run.text(), format!("out: written; rows: 1, {words} {written}\n{BACK} {words}\n"));
+    }
+}
+
+/// A recording, its format, the words asked for, and the message.
+fn refused() -> [(Vec<u8>, &'static str, &'static str, String); 5] {
+    let unwritable = "refused 12: a bad row, or one that the format cannot write";
+    let other = "what to do: try the other words, or use the rows as ./fryskelom rows prints them: EVT2 holds pixels below 2048 by 2048, triggers and IMU counts, \
+                 EVT3 such pixels and triggers of channels 0 to 15";
+    let imu = "65 µs IMU counts acceleration x 1 y -2 z 0 g rotation x 1 y 0 z -0.007633588 °/s";
+    let step_back = evt3::bytes_of(&[0x8001, 0x6002, 0xa001, 0x6001, 0xa000]);
+    [
+        (
+            evt2_words(),
+            "evt2",
+            "evt2",
+            format!(
+                "{unwritable}\nat row 0 of recording (counted from 0): USB packet flag 1 sequence count 3 system time 4294967300; \
+                 nothing was written\n{other}\n"
+            ),
+        ),
+        (in_order(), "evt2", "evt3", format!("{unwritable}\nat row 1 of recording (counted from 0): {imu}; nothing was written\n{other}\n")),
+        (
+            inputs::dat(),
+            "dat",
+            "evt3",
+            format!("{unwritable}\nat row 1 of recording (counted from 0): 12500100 µs pixel x 16383 y 479 darker; nothing was written\n{other}\n"),
+        ),
+        (
+            step_back,
+            "evt3",
+            "evt3",
+            "refused 5: a time goes back, is negative or passes the limit\n\
+             at row 1 of recording (counted from 0): 4097 µs trigger channel 0 falling; nothing was written\n\
+             what to do: rows are written in the order of time alone, and those of this recording are not in it: use them as ./fryskelom rows prints them\n"
+                .to_string(),
+        ),
+        (
+            evt3_words()[..21].to_vec(),
+            "evt3",
+            "evt3",
+            "refused 4: the input ends inside a word, group, event, packet or header\n\
+             at byte 20 of recording (counted from 0); 4 rows were finished before it\n\
+             what to do: the file is cut: copy it again from the camera; the rows before this place are good\n"
+                .to_string(),
+        ),
+    ]
+}
+
+#[test]
+fn refusals_write_nothing() {
+    let folder = folder("convert-refused");
+    for (bytes, format, words, message) in refused() {
+        for out in ["new", "old", "-"] {
+            fs::write(folder.join("old"), "as it was").expect("a file");
+            run_on(&folder, &bytes, &["convert", "recording", out, "--format", format, "--to", words]).failed(&message);
+            assert_eq!(fs::read(folder.join("old")).expect("it is there"), b"as it was");
+            assert_eq!(files(&folder), ["old", "recording"]);
+        }
+    }
+}
+
+#[test]
+fn files_that_cannot_be_written() {
+    let folder = folder("unwritable");
+    fs::create_dir(folder.join("folder")).expect("a folder");
+    // a device of the machine is no thing to try this on
+    assert!(Command::new("mkfifo").arg(folder.join("pipe")).status().expect("mkfifo runs").success());
+    let no_file = "it is there and is no file; name a file, or - for standard output";
+    let cases = [
+        ("nowhere/out", "cannot write nowhere/out: No such file or directory (os error 2)\n".to_string()),
+        ("recording/out", "cannot write recording/out: Not a directory (os error 20)\n".to_string()),
+        ("folder", format!("cannot write folder: {no_file}\n")),
+        ("pipe", format!("cannot write pipe: {no_file}\n")),
+        ("", "cannot write : the path names no file\n".to_string()),
+        ("folder/..", format!("cannot write folder/..: {no_file}\n")),
+    ];
+    for (out, message) in cases {
+        run_on(&folder, &in_order(), &["convert", "recording", out, "--format", "evt2", "--to", "evt2"]).failed(&message);
+        assert_eq!(files(&folder), ["folder", "pipe", "recording"]);
+    }
+}
+
+#[test]
+fn a_disk_that_is_full() {
+    let folder = folder("convert-full");
+    fs::write(folder.join("recording"), dat::recording((640, 480), 10_000, &mut Numbers::new(0x4f8a_66d1_93b0_2e7c))).expect("a file");
+    fs::write(folder.join("old"), "as it was").expect("a file");
+    for out in ["new", "old"] {
+        // a file can have some blocks only, and the process goes on where it has more
+        let run = run_after(&folder, "trap '' XFSZ; ulimit -f 8", &["convert", "recording", out, "--format", "dat", "--to", "evt3"]);
+        run.failed(&format!("cannot write {out}: File too large (os error 27)\n"));
+        assert_eq!(fs::read(folder.join("old")).expect("it is there"), b"as it was");
+        assert_eq!(files(&folder), ["old", "recording"]);
+    }
+}
+
+#[test]
+fn an_existing_file_is_replaced() {
+    let folder = folder("replaced");
+    fs::create_dir(folder.join("elsewhere")).expect("a folder");
+    fs::write(folder.join("elsewhere/out"), "longer than what is written, and gone afterwards").expect("a file");
+    symlink("elsewhere/out", folder.join("link")).expect("a link");
+    run_on(&folder, &in_order(), &["convert", "recording", "link", "--format", "evt2", "--to", "evt2"]).good();
+    assert_eq!(fs::read(folder.join("elsewhere/out")).expect("it was written"), in_order());
+    assert_eq!(files(&folder), ["elsewhere", "link", "recording"]);
+    assert_eq!(files(&folder.join("elsewhere")), ["out"]);
+    // also where it is the recording itself
+    run(&folder, &["convert", "recording", "recording", "--format", "evt2", "--to", "evt2"]).good();
+    assert_eq!(fs::read(folder.join("recording")).expect("it was written"), in_order());
+}

@@ -1,0 +1,153 @@
+//! `info`: all of its text, for every format.
+use super::inputs;
+use super::run::{folder, run_on};
+
+const EVT2: &str = "\
+file: recording
+format: EVT2 words (evt2)
+size: 56 bytes
+header: none
+picture width: 2048 pixels, the limit, since no --width is given
+picture height: 480 pixels
+events: 4
+    pixel: 1
+    trigger: 1
+    IMU counts: 1
+    IMU singles: 0
+    USB packet: 1
+    special: 0
+first time: 64 µs
+last time: 66 µs
+span: 2 µs, 0.000002 s
+";
+
+const RAW_EVT3: &str = r#"file: recording
+format: RAW file of EVT3 words (raw-evt3)
+size: 64 bytes
+header: the data begin at byte 42
+    % evt 3.0
+    % Width: 640
+    % maker A\tB\xe9\ "C"\r
+picture width: 640 pixels
+picture height: 2048 pixels, the limit, since no line of the header says it
+events: 5
+    pixel: 4
+    trigger: 1
+    IMU counts: 0
+    IMU singles: 0
+    USB packet: 0
+    special: 0
+first time: 4098 µs
+last time: 33554433 µs
+span: 33550335 µs, 33.550335 s
+"#;
+
+const DAT: &str = "\
+file: recording
+format: DAT file (dat)
+size: 31 bytes
+header: the data begin at byte 13
+    % Height 480
+picture width: 16384 pixels, the limit, since no line of the header says it
+picture height: 480 pixels
+events: 2
+    pixel: 2
+    trigger: 0
+    IMU counts: 0
+    IMU singles: 0
+    USB packet: 0
+    special: 0
+first time: 100 µs
+last time: 12500100 µs
+span: 12500000 µs, 12.500000 s
+";
+
+const AEDAT: &str = "\
+file: recording
+format: AEDAT 3.1 file (aedat)
+size: 205 bytes
+header: the data begin at byte 61
+    #!AER-DAT3.1
+    #Format: RAW
+    #Source 0: DVS128
+    #!END-HEADER
+picture: an AEDAT file says none
+events: 4
+    pixel: 1
+    trigger: 1
+    IMU counts: 0
+    IMU singles: 1
+    USB packet: 0
+    special: 1
+first time: 100 µs
+last time: 4294967596 µs
+span: 4294967496 µs, 4294.967496 s
+";
+
+#[test]
+fn every_format() {
+    let folder = folder("info");
+    let cases = [
+        (inputs::evt2_words(), "--format evt2 --height 480", EVT2),
+        (inputs::raw(inputs::evt3_words()), "--format raw-evt3", RAW_EVT3),
+        (inputs::dat(), "--format dat", DAT),
+        (inputs::aedat(), "--format aedat", AEDAT),
+    ];
+    for (bytes, options, text) in cases {
+        let arguments: Vec<_> = ["info", "recording"].into_iter().chain(options.split(' ')).collect();
+        assert_eq!(run_on(&folder, &bytes, &arguments).good().text(), text, "{options}");
+    }
+}
+
+const NO_TIMES: &str = "\
+events: 1
+    pixel: 0
+    trigger: 0
+    IMU counts: 0
+    IMU singles: 0
+    USB packet: 1
+    special: 0
+first time: none
+last time: none
+span: none
+";
+
+#[test]
+fn a_packet_has_no_time() {
+    let run = run_on(&folder("no-times"), &inputs::evt2_words()[..20], &["info", "recording", "--format", "evt2"]).good();
+    assert!(run.text().ends_with(NO_TIMES), "{run:?}");
+}
+
+#[test]
+fn both_sides_said_and_neither() {
+    let folder = folder("sides");
+    let limit = ", the limit, since no line of the header says it";
+    let cases = [
+        ("% width 2048\n% height 2048\n", "picture width: 2048 pixels\npicture height: 2048 pixels\n".to_string()),
+        ("% evt 2.0\n", format!("picture width: 2048 pixels{limit}\npicture height: 2048 pixels{limit}\n")),
+        ("", format!("header: the data begin at byte 0\npicture width: 2048 pixels{limit}\npicture height: 2048 pixels{limit}\n")),
+    ];
+    for (header, text) in cases {
+        let run = run_on(&folder, header.as_bytes(), &["info", "recording", "--format", "raw-evt2"]).good();
+        assert!(run.text().contains(&text), "{run:?}");
+    }
+}
+
+#[test]
+fn what_was_finished_before_a_refusal() {
+    let folder = folder("info-refused");
+    let cases: [(&str, &[u8], &str); 6] = [
+        ("evt3", &inputs::evt3_words()[..13], "header: none\npicture width: 2048 pixels, the limit, since no --width is given\n"),
+        ("evt3", &inputs::evt3_words()[..13], "events: 4 before the reading stopped\n    pixel: 4\n"),
+        ("raw-evt3", b"% evt 3.0\n% width 1,280\n\x01\x80", "refused at byte 10, in the line marked >\n    % evt 3.0\n  > % width 1,280\n"),
+        ("raw-evt2", b"% evt 3.0\n% width 640\r\n", "    % evt 3.0\n  > % width 640\\r\npicture: not known\n"),
+        ("aedat", &inputs::aedat()[..40], "refused at byte 28, in the line marked >\n    #!AER-DAT3.1\n    #Format: RAW\n  > #Source 0: D\n"),
+        ("aedat", &inputs::aedat()[..110], "header: the data begin at byte 61\n    #!AER-DAT3.1\n"),
+    ];
+    for (format, bytes, text) in cases {
+        let run = run_on(&folder, bytes, &["info", "recording", "--format", format]);
+        assert_eq!(run.status, Some(1), "{format}");
+        assert!(run.text().contains(text) && run.text().contains("before the reading stopped"), "{run:?}");
+        assert!(run.stderr.starts_with("refused "), "{run:?}");
+    }
+}

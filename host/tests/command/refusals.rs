@@ -1,0 +1,111 @@
+//! Every refusal that a reader or a writer can give, reached through the command.
+use super::inputs::{aedat, dat, evt3_words};
+use super::run::{folder, run, run_on};
+use fryskelom::samples::aedat::{packet, polarity, special, Packet, END, POLARITY, SPECIAL, START};
+use fryskelom::samples::{evt2, evt3};
+
+#[test]
+fn the_table() {
+    let table = run(&folder("table"), &["refusals"]).good();
+    let numbers = table.text().lines().filter_map(|line| line.split_once("  ")?.0.trim().parse().ok());
+    assert_eq!(numbers.collect::<Vec<u32>>(), (1..=14).collect::<Vec<_>>());
+    assert_eq!(table.text().matches("    what to do").count(), 16, "one for each number, and another where rows are written, for 2 and 5");
+}
+
+/// A recording that is refused.
+struct Case {
+    format: &'static str,
+    bytes: Vec<u8>,
+    refusal: u32,
+    place: usize,
+    rows: usize,
+}
+
+/// EVT3 words after a pixel, which are 8 bytes.
+fn words3(refusal: u32, place: usize, rows: usize, words: &[u16]) -> Case {
+    Case { format: "evt3", bytes: evt3::bytes_of(&[&[0x8001, 0x6002, 0x0003, 0x2805], words].concat()), refusal, place, rows }
+}
+
+/// EVT2 words after a pixel, which are 8 bytes.
+fn words2(refusal: u32, place: usize, rows: usize, words: &[u32]) -> Case {
+    Case { format: "evt2", bytes: evt2::bytes_of(&[&[0x8000_0001, 0x1080_2803], words].concat()), refusal, place, rows }
+}
+
+/// A file, in a format.
+fn file(format: &'static str, refusal: u32, place: usize, rows: usize, parts: &[&[u8]]) -> Case {
+    Case { format, bytes: parts.concat(), refusal, place, rows }
+}
+
+/// AEDAT packets after a packet of one pixel, which ends at byte 78.
+fn packets(refusal: u32, place: usize, rows: usize, after: &[u8]) -> Case {
+    file("aedat", refusal, place, rows, &[START, END, &packet(POLARITY, 0, &[polarity(100, 5, 3, 1)]), after])
+}
+
+fn cases() -> Vec<Case> {
+    let resets = packet(SPECIAL, 0, &[special(5, 0, 0), special(6, 1, 0)]);
+    vec![
+        words3(3, 8, 1, &[0x9000]),
+        words2(3, 12, 2, &[0x0080_2803, 0x3000_0000]),
+        file("evt3", 4, 2, 0, &[&evt3_words()[..3]]),
+        file("dat", 4, 23, 1, &[&dat()[..30]]),
+        file("dat", 4, 0, 0, &[]),
+        file("aedat", 4, 61, 0, &[&aedat()[..70]]),
+        words2(4, 8, 1, &[0xd000_0000, 0xf000_0000]),
+        words2(5, 8, 1, &[0x8000_0000]),
+        file("dat", 5, 23, 1, &[&dat()[..23], &[0; 8]]),
+        packets(5, 106, 1, &packet(POLARITY, 0, &[polarity(-1, 5, 3, 1)])),
+        words3(6, 10, 2, &[0x2006, 0x27ff]),
+        file("dat", 6, 23, 1, &[&dat()[..23], &[0, 0, 0, 1, 0, 0, 0, 0x20]]),
+        words3(7, 8, 1, &[0x0803]),
+        words2(8, 12, 1, &[0xd000_0000, 0x8000_0001]),
+        file("raw-evt3", 9, 10, 0, &[b"% evt 3.0\n% width 12,500\n"]),
+        file("raw-evt2", 9, 12, 0, &[b"% width 640\n% width 640\n"]),
+        file("dat", 9, 13, 0, &[b"% height 480\n\x0c\x08"]),
+        file("aedat", 9, 0, 0, &[b"#!AER-DAT2.0\r\n"]),
+        packets(10, 78, 1, &Packet::new(5, 8, 0).bytes()),
+        packets(11, 114, 2, &resets),
+    ]
+}
+
+#[test]
+fn readings() {
+    let folder = folder("readings");
+    for Case { format, bytes, refusal, place, rows } in cases() {
+        // only the case of 6 has a pixel outside this picture
+        let picture: &[&str] = if format.starts_with("evt") { &["--width", "2047"] } else { &[] };
+        let run = run_on(&folder, &bytes, &[&["rows", "recording", "--format", format], picture].concat());
+        let case = format!("{refusal} at {place} of {format}: {run:?}");
+        assert_eq!(run.status, Some(1), "{case}");
+        // what was finished is still printed
+        assert_eq!(run.text().lines().count(), rows, "{case}");
+        let were = if rows == 1 { "row was" } else { "rows were" };
+        let [first, second, third] = run.stderr.lines().collect::<Vec<_>>()[..] else { panic!("{case}") };
+        assert!(first.starts_with(&format!("refused {refusal}: ")), "{case}");
+        assert_eq!(second, format!("at byte {place} of recording (counted from 0); {rows} {were} finished before it"), "{case}");
+        assert!(third.starts_with("what to do: ") && third.len() > 20, "{case}");
+    }
+}
+
+#[test]
+fn whole_messages() {
+    let folder = folder("whole-messages");
+    let message = "refused 4: the input ends inside a word, group, event, packet or header\n\
+                   at byte 2 of recording (counted from 0); 0 rows were finished before it\n\
+                   what to do: the file is cut: copy it again from the camera; the rows before this place are good\n";
+    run_on(&folder, &evt3_words()[..3], &["rows", "recording", "--format", "evt3"]).failed(message);
+    run_on(&folder, &evt3_words()[..3], &["convert", "recording", "out", "--to", "evt2", "--format", "evt3"]).failed(message);
+    for picture in ["--width=0", "--height=0", "--width=2049", "--height=4294967295"] {
+        run_on(&folder, &evt3_words(), &["rows", "recording", "--format", "evt3", picture]).failed(
+            "refused 14: a picture width or height of 0 or over 2048\n\
+             at byte 0 of recording (counted from 0); 0 rows were finished before it\n\
+             what to do: give --width and --height from 1 to 2048, or leave them out\n",
+        );
+    }
+}
+
+#[test]
+fn files_that_cannot_be_read() {
+    let folder = folder("unreadable");
+    run(&folder, &["rows", "not there.dat"]).failed("cannot read not there.dat: No such file or directory (os error 2)\n");
+    run(&folder, &["info", ".", "--format", "dat"]).failed("cannot read .: Is a directory (os error 21)\n");
+}

@@ -41,7 +41,7 @@ typedef struct {
 /* The event of a row of ten numbers; a length other than 10 is refused 13, a row that is not good 12. */
 fry_event fry_event_of(const uint32_t *row, size_t len);
 
-/* Readers of words, for a picture of width by height pixels, each 1 to 2,048. Rows take ten numbers each and stand from rows[0]
+/* Readers of words, for a picture of width by height pixels, each 1 to 2048. Rows take ten numbers each and stand from rows[0]
  * on; rows_len counts numbers, so that there is room for rows_len / 10 rows, rounded down. A word's rows are written all or
  * none. What lies past the finished rows is not touched, refused or not.
  * Refused before any word, with no rows and place 0: 1, then 14. */
@@ -64,20 +64,20 @@ fry_header fry_read_header(const uint8_t *bytes, size_t bytes_len, uint32_t limi
 /* Readers of RAW and DAT files. The picture is what the text header says, places count from the file's first byte, and rows are as for the
  * readers of words. Refused first, with no rows: what fry_read_header refuses. */
 
-/* Reads a RAW file of EVT2 words, each side of the picture at most 2,048. After the header all is as in fry_read_evt2. */
+/* Reads a RAW file of EVT2 words, each side of the picture at most 2048. After the header all is as in fry_read_evt2. */
 fry_reading fry_read_raw_evt2(const uint8_t *bytes, size_t bytes_len, uint32_t *rows, size_t rows_len);
 
-/* Reads a RAW file of EVT3 words, each side of the picture at most 2,048. After the header all is as in fry_read_evt3. */
+/* Reads a RAW file of EVT3 words, each side of the picture at most 2048. After the header all is as in fry_read_evt3. */
 fry_reading fry_read_raw_evt3(const uint8_t *bytes, size_t bytes_len, uint32_t *rows, size_t rows_len);
 
-/* Reads a DAT file, each side of the picture at most 16,384. After the header stand the bytes 0 and 8, refused where the first of
+/* Reads a DAT file, each side of the picture at most 16384. After the header stand the bytes 0 and 8, refused where the first of
  * them is or should be: 4 where fewer than two are left, else 9. Refused at an event, in this order: 4, 5, 6, 2. */
 fry_reading fry_read_dat(const uint8_t *bytes, size_t bytes_len, uint32_t *rows, size_t rows_len);
 
 /* Reads an AEDAT 3.1 file. Places count from the file's first byte, and rows are as for the readers of words; there is no picture, so that
  * x and y are any of 15 bits. Packets of types 0, 1 and 3 (special, polarity, IMU6) are read, those of 2, 4, 12 and from 100 on are jumped.
  * Events without the mark of a valid one give nothing and are not judged.
- * Refused: 1, with place 0. Then at the first header line at fault: 4 where the input ends before its newline and before its 1,024th
+ * Refused: 1, with place 0. Then at the first header line at fault: 4 where the input ends before its newline and before its 1024th
  * byte, also where it ends before the line's first byte, else 9. Then at a packet, in this order: 4 where its header is cut; 10 for what
  * the header says (type, size, offset, source, overflow, capacity, number, valid; of a jumped packet any offset and any size from 0 on are
  * good); 4 where its data are cut; 10 where it is read and valid is not the number of marks. Then at a valid event, in this order: 5 for a
@@ -85,13 +85,13 @@ fry_reading fry_read_dat(const uint8_t *bytes, size_t bytes_len, uint32_t *rows,
 fry_reading fry_read_aedat(const uint8_t *bytes, size_t bytes_len, uint32_t *rows, size_t rows_len);
 
 /* Writes the EVT2 words of rows, four bytes each, from out[0] on, and answers how many they are: seven a row at most. What
- * follows them is not touched. rows_len counts numbers, ten a row. Kinds 1, 2 and 3 are written, x and y below 2,048, and no
+ * follows them is not touched. rows_len counts numbers, ten a row. Kinds 1, 2 and 3 are written, x and y below 2048, and no
  * row may be earlier than the one before it.
  * Refused, in this order, and then nothing is touched: 13, row by row 12 and then 5, and 2 where out is too short. */
 fry_writing fry_write_evt2(const uint32_t *rows, size_t rows_len, uint8_t *out, size_t out_len);
 
 /* Writes the EVT3 words of rows, two bytes each. Always enough are four words a row, and two more for each wrap of the clock
- * (16,777,216 microseconds) up to the last row's time. Kinds 1 and 2 are written, channels below 16. All else, refusals and
+ * (16777216 microseconds) up to the last row's time. Kinds 1 and 2 are written, channels below 16. All else, refusals and
  * their order among it, is as in fry_write_evt2. */
 fry_writing fry_write_evt3(const uint32_t *rows, size_t rows_len, uint8_t *out, size_t out_len);
 

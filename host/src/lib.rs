@@ -20,6 +20,16 @@ pub mod samples;
 #[doc(hidden)]
 pub mod second;
 
+/// The longest input that is read, in bytes; a longer one is refused (1).
+pub const MOST_BYTES: usize = 1_073_741_824;
+
+/// The longest list that is written, in rows; a longer one is refused (13).
+pub const MOST_ROWS: usize = 16_777_216;
+
+/// The most pixels that a side of a picture of EVT words has, and one of a DAT file.
+pub const EVT_SIDE: u32 = 2_048;
+pub const DAT_SIDE: u32 = 16_384;
+
 /// Why an input was refused: the number of the README's table.
 #[derive(Clone, Copy, Debug, PartialEq, Eq)]
 pub struct Refusal(pub u64);
@@ -122,7 +132,7 @@ pub fn read_evt3(bytes: &[u8], width: u32, height: u32, rows: &mut [u32]) -> Res
     reading(evt3_numbers(bytes, width, height, rows))
 }
 
-/// Reads the text header of a file whose format allows widths and heights from 1 to `limit`. A fault has no rows, and its place is the
+/// Reads the text header of a file whose format allows widths and heights from 1 to `limit`, which may be any number. A fault has no rows, and its place is the
 /// first byte of the line at fault.
 pub fn read_header(bytes: &[u8], limit: u32) -> Result<Header, Fault> {
     let (refusal, place, width, height) = header_numbers(bytes, limit);

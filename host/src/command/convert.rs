@@ -4,7 +4,7 @@ use super::memory::{zeros, Lack};
 use super::progress::Progress;
 use super::recording::{time_of, Recording};
 use super::{new_file, output, refusals, Failure};
-use fryskelom::{write_evt2, write_evt3, RowFault};
+use fryskelom::{write_evt2, write_evt3, RowFault, MOST_ROWS};
 use std::ffi::OsStr;
 
 /// Microseconds from one wrap of the EVT3 clock to the next.
@@ -30,7 +30,7 @@ impl Words {
     /// As many words as are always enough for a list of rows.
     fn most(self, numbers: &[u32]) -> usize {
         // a longer list is refused (13) before its buffer is looked at
-        let rows = (numbers.len() / 10).min(refusals::MOST_ROWS);
+        let rows = (numbers.len() / 10).min(MOST_ROWS);
         match self {
             Words::Evt2 => 7 * rows,
             Words::Evt3 => 4 * rows + 2 * numbers.chunks_exact(10).last().map_or(0, |row| time_of(row) / WRAP) as usize,

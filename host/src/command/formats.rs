@@ -1,11 +1,7 @@
 //! The formats that a recording can have, and the library's reader of each.
-use fryskelom::{read_aedat, read_dat, read_evt2, read_evt3, read_raw_evt2, read_raw_evt3, Fault};
+use fryskelom::{read_aedat, read_dat, read_evt2, read_evt3, read_raw_evt2, read_raw_evt3, Fault, EVT_SIDE};
 use std::ffi::OsStr;
 use std::path::Path;
-
-/// The most pixels of a side that EVT words can say, and a DAT file.
-pub const EVT_LIMIT: u32 = 2_048;
-pub const DAT_LIMIT: u32 = 16_384;
 
 /// The picture that was asked for bare words, which do not say it themselves.
 #[derive(Clone, Copy, Default)]
@@ -65,7 +61,7 @@ impl Format {
 
     /// The library's reading.
     pub fn read(self, bytes: &[u8], rows: &mut [u32]) -> Result<usize, Fault> {
-        let side = |asked: Option<u32>| asked.unwrap_or(EVT_LIMIT);
+        let side = |asked: Option<u32>| asked.unwrap_or(EVT_SIDE);
         match self {
             Format::Evt2(asked) => read_evt2(bytes, side(asked.width), side(asked.height), rows),
             Format::Evt3(asked) => read_evt3(bytes, side(asked.width), side(asked.height), rows),

@@ -1,7 +1,7 @@
 //! What `info` says of a recording's header and picture. Where lines end and what they say is the library's answer.
-use super::formats::{Asked, Format, DAT_LIMIT, EVT_LIMIT};
-use super::recording::{Recording, Stop, MOST_BYTES};
-use fryskelom::{read_header, Header};
+use super::formats::{Asked, Format};
+use super::recording::{Recording, Stop};
+use fryskelom::{read_header, Header, DAT_SIDE, EVT_SIDE, MOST_BYTES};
 
 /// The last line of the header of an AEDAT file.
 const AEDAT_END: &[u8] = b"#!END-HEADER\r\n";
@@ -14,8 +14,8 @@ pub fn lines(recording: &Recording, stop: Option<Stop>) -> Vec<String> {
     match recording.format {
         Format::Evt2(asked) | Format::Evt3(asked) => of_words(asked),
         _ if recording.bytes.len() > MOST_BYTES => vec!["header: not read, since the file is too long".to_string(), "picture: not known".to_string()],
-        Format::RawEvt2 | Format::RawEvt3 => of_text(&recording.bytes, EVT_LIMIT),
-        Format::Dat => of_text(&recording.bytes, DAT_LIMIT),
+        Format::RawEvt2 | Format::RawEvt3 => of_text(&recording.bytes, EVT_SIDE),
+        Format::Dat => of_text(&recording.bytes, DAT_SIDE),
         Format::Aedat => of_aedat(&recording.bytes, stop),
     }
 }
@@ -24,7 +24,7 @@ pub fn lines(recording: &Recording, stop: Option<Stop>) -> Vec<String> {
 fn of_words(Asked { width, height }: Asked) -> Vec<String> {
     let side = |name: &str, asked: Option<u32>| match asked {
         Some(pixels) => format!("picture {name}: {pixels} pixels"),
-        None => format!("picture {name}: {EVT_LIMIT} pixels, the limit, since no --{name} is given"),
+        None => format!("picture {name}: {EVT_SIDE} pixels, the limit, since no --{name} is given"),
     };
     vec!["header: none".to_string(), side("width", width), side("height", height)]
 }

@@ -2,8 +2,9 @@
 use super::arguments::Source;
 use super::events::KINDS;
 use super::progress::Progress;
-use super::recording::{time_of, Reading, Recording, MOST_BYTES};
+use super::recording::{time_of, Reading, Recording};
 use super::{header, output, Failure};
+use fryskelom::MOST_BYTES;
 
 /// Prints format, size, header, picture, events and times of a recording, and then its refusal.
 pub fn print(source: &Source) -> Result<(), Failure> {

@@ -4,13 +4,10 @@ use super::formats::Format;
 use super::memory::{zeros, Lack};
 use super::progress::Progress;
 use super::{refusals, Failure};
-use fryskelom::{Fault, Refusal};
+use fryskelom::{Fault, Refusal, MOST_BYTES};
 use std::fs::File;
 use std::hint::black_box;
 use std::io::{self, Read};
-
-/// The longest input that the library reads; of a longer one it is given a byte more, which it refuses (1).
-pub const MOST_BYTES: usize = 1_073_741_824;
 
 /// How much of a file is read at once.
 const PIECE: usize = 4 << 20;
@@ -54,7 +51,7 @@ impl Recording {
         Ok(recording)
     }
 
-    /// Takes all bytes of an input that is probably so long, up to the longest one that is read and a byte more.
+    /// Takes all bytes of an input that is probably so long, up to the longest one that is read and a byte more, which the library refuses (1).
     fn fill(&mut self, mut input: impl Read, length: u64, progress: &mut Progress) -> Result<(), Failure> {
         let length = usize::try_from(length).map_or(MOST_BYTES, |length| length.min(MOST_BYTES));
         // a piece more, so that the end is found without another buffer

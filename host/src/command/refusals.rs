@@ -1,6 +1,6 @@
 //! The fourteen refusals in plain words, and the messages that are made of them.
 use super::events;
-use fryskelom::{Fault, Refusal, RowFault};
+use fryskelom::{Fault, Refusal, RowFault, MOST_ROWS};
 
 /// What was found, and what to do where a recording is read and where rows are written; empty where it is not refused so.
 struct Rule {
@@ -74,9 +74,6 @@ const RULES: [Rule; 14] = [
         writing: "",
     },
 ];
-
-/// The most rows that a list can have.
-pub const MOST_ROWS: usize = 16_777_216;
 
 /// A reader's refusal.
 pub fn reading(fault: &Fault, name: &str) -> String {

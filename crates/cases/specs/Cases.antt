@@ -66,33 +66,13 @@ abbrev pub allReadings : List Row → List Float
 allReadings [] = []
 allReadings (r ∷ rs) = rowReadings r ++ allReadings rs
 
-abbrev pub evt2Final : Ending (Reached evt2State.State) → Final
-evt2Final (finished r) = evt2Ends (r .state .known) (r .state .high) (r .state .left)
-evt2Final (refused f place) = refusedAt f place
+-- how a reading ends, where `name` says what is named of the last state
+abbrev pub finalAs : {S : Type 0} → (S → Final) → Ending S → Final
+finalAs name (finished s) = name s
+finalAs name (refused f place) = refusedAt f place
 
-abbrev pub evt2Seen : Run (Reached evt2State.State) → Seen
-evt2Seen run = record { rows = run .rows; final = evt2Final (run .ending); readings = allReadings (run .rows) }
-
-abbrev pub evt3Final : Ending (Reached State) → Final
-evt3Final (finished r) = evt3Ends (r .state)
-evt3Final (refused f place) = refusedAt f place
-
-abbrev pub evt3Seen : Run (Reached State) → Seen
-evt3Seen run = record { rows = run .rows; final = evt3Final (run .ending); readings = allReadings (run .rows) }
-
-abbrev pub datFinal : Ending (Reached datState.State) → Final
-datFinal (finished r) = datEnds (r .state .last)
-datFinal (refused f place) = refusedAt f place
-
-abbrev pub datSeen : Run (Reached datState.State) → Seen
-datSeen run = record { rows = run .rows; final = datFinal (run .ending); readings = allReadings (run .rows) }
-
-abbrev pub aedatFinal : Ending aedatState.State → Final
-aedatFinal (finished s) = aedatEnds s
-aedatFinal (refused f place) = refusedAt f place
-
-abbrev pub aedatSeen : Run aedatState.State → Seen
-aedatSeen run = record { rows = run .rows; final = aedatFinal (run .ending); readings = allReadings (run .rows) }
+abbrev pub seenAs : {S : Type 0} → (S → Final) → Run S → Seen
+seenAs name run = record { rows = run .rows; final = finalAs name (run .ending); readings = allReadings (run .rows) }
 
 abbrev pub evt3Written : List Row → Seen
 evt3Written rs =
@@ -100,10 +80,11 @@ evt3Written rs =
 
 -- with room for 100 rows, or 100 bytes, which no case fills
 abbrev pub seenOf : Input → Seen
-seenOf (evt2 ws) = evt2Seen (evt2Reader.readingOf (pictureOf 2048 2048) (bytesOfAll 4 ws) 100)
-seenOf (evt3 ws) = evt3Seen (readingOf (pictureOf 2048 2048) (bytesOfAll 2 ws) 100)
-seenOf (dat bytes) = datSeen (datReader.readingOf bytes 100)
-seenOf (aedat bytes) = aedatSeen (aedatReader.readingOf bytes 100)
+seenOf (evt2 ws) =
+    seenAs (λ (r : Reached evt2State.State). evt2Ends (r .state .known) (r .state .high) (r .state .left)) (evt2Reader.readingOf (pictureOf 2048 2048) (bytesOfAll 4 ws) 100)
+seenOf (evt3 ws) = seenAs (λ (r : Reached State). evt3Ends (r .state)) (readingOf (pictureOf 2048 2048) (bytesOfAll 2 ws) 100)
+seenOf (dat bytes) = seenAs (λ (r : Reached datState.State). datEnds (r .state .last)) (datReader.readingOf bytes 100)
+seenOf (aedat bytes) = seenAs aedatEnds (aedatReader.readingOf bytes 100)
 seenOf (toEvt3 rs) = evt3Written rs
 
 -- a case, and that it holds
@@ -116,8 +97,8 @@ EachHolds [] = Unit {0}
 EachHolds (c ∷ cs) = (seenOf (c .input) ≡ c .seen) × EachHolds cs
 
 -- the state of an EVT3 reader after 8001 6002 0003
-abbrev pub timed : State
-timed = withY (withTime (withHigh fresh 1 0) 4098) 3
+abbrev pub timeAndY : State
+timeAndY = withY (withTime (withHigh fresh 1 0) 4098) 3
 
 -- the five CONTINUED of an IMU reading that is 0 but along X, and its other readings (a temperature of +0 stands for none)
 abbrev pub still : List ℕ
@@ -137,12 +118,13 @@ onePolarity overflow w time =
     aedatLine versionText ++ aedatLine formatText ++ aedatLine endText ++ bytesOfAll 2 (1 ∷ 0 ∷ [])
     ++ bytesOfAll 4 (8 ∷ 4 ∷ overflow ∷ 1 ∷ 1 ∷ 1 ∷ w ∷ time ∷ [])
 
+-- every starred case, in the order of 01
 abbrev pub starCases : List Case
 starCases =
     -- one pixel
     record {
       input = evt3 (0x8001 ∷ 0x6002 ∷ 0x0003 ∷ 0x2805 ∷ []);
-      seen = record { rows = pixelRow 4098 5 3 1 ∷ []; final = evt3Ends timed; readings = [] };
+      seen = record { rows = pixelRow 4098 5 3 1 ∷ []; final = evt3Ends timeAndY; readings = [] };
     }
     -- a high part put before a last pixel: the time stays
     ∷ record {
@@ -150,7 +132,7 @@ starCases =
       seen =
           record {
             rows = pixelRow 4098 5 3 1 ∷ pixelRow 4098 5 3 0 ∷ [];
-            final = evt3Ends (withHigh timed 2 0);
+            final = evt3Ends (withHigh timeAndY 2 0);
             readings = [];
           };
     }
@@ -160,7 +142,7 @@ starCases =
       seen =
           record {
             rows = pixelRow 4098 10 3 0 ∷ pixelRow 4098 12 3 0 ∷ pixelRow 4098 22 3 0 ∷ pixelRow 4098 29 3 0 ∷ [];
-            final = evt3Ends (withBase timed 30 0);
+            final = evt3Ends (withBase timeAndY 30 0);
             readings = [];
           };
     }

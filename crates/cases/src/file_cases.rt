@@ -102,7 +102,9 @@ fn read_raw(name: &[u8], bytes: &[u8], format: Format) {
 
 pub(crate) fn raws() {
     read_raw(b"raw empty:", b"", Format::Evt3);
+    read_raw(b"raw empty, evt2:", b"", Format::Evt2);
     read_raw(b"one byte:", b"\x01", Format::Evt2);
+    read_raw(b"one byte, evt3:", b"\x01", Format::Evt3);
     read_raw(b"header alone:", b"% width 6\n", Format::Evt2);
     // 8001 6002 0003 2805
     read_raw(

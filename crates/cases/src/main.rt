@@ -24,7 +24,6 @@ fn main() {
     row_cases::buffers();
     row_cases::judgements();
     word_cases::reads();
-    word_cases::puts();
     evt3_cases::reads();
     evt2_cases::reads();
     evt2_cases::writes();

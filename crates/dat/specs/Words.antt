@@ -40,5 +40,6 @@ eventOf p s w =
     (gives (pixelRow (timeOf w) (xOf w) (yOf w) (polarityOf w) ∷ []))
     (refuses Outside))
 
+-- what a word does
 unfoldable pub step : Picture → State → ℕ → Outcome State
 step p s w = onto (eventOf p s w) (withLast s (timeOf w))

@@ -1,4 +1,4 @@
-// The C interface: every public function of the crates below under a C name, and nothing but calls.
+// The C interface: the readers, the writers and the event of a row under C names, and nothing but calls.
 //
 // include/fryskelom.h declares what stands here, under the names that C callers use. A slice passes as a pointer and a
 // length; the pointer is never null, and buffers do not overlap.

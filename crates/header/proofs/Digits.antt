@@ -12,6 +12,7 @@ use Rattle.rows.proofs.GoodRows.{and-first, and-second}
 use Rattle.header.specs.declared.value.Value.{Value}
 use Rattle.header.specs.declared.value.Value.the-variants.{Number, Malformed}
 use Rattle.header.specs.Sides.{isDigit, areDigits, decimal, numberOf, spaced, valueOf}
+use Rattle.rows.proofs.Chosen.{cond-holds}
 use Rattle.header.proofs.LineEnds.{drop-at}
 
 -- ten to the power of i
@@ -96,6 +97,9 @@ unfolding valueOf spaced
 value-none [] h = refl
 value-none (c ∷ t) h = absurd (omega arith)
 
+abbrev malformed : Value → Type 0
+malformed v = v ≡ Malformed
+
 -- a byte that is no digit, no space and no colon, anywhere in a value
 module _ (c : ℕ) (digit : isDigit c ≡ false) (space : c ≡ 32 → ⊥) (colon : c ≡ 58 → ⊥) where
   not-digits : (d : List ℕ) (i : ℕ) → i < length d → getD d i 0 ≡ c → areDigits d ≡ false
@@ -108,18 +112,11 @@ module _ (c : ℕ) (digit : isDigit c ≡ false) (space : c ≡ 32 → ⊥) (col
   unfolding spaced
   not-spaced [] i p e = absurd (omega arith)
   not-spaced (a ∷ t) zero p e = simp (ne-eqb a 32 (λ f. space (sym e ∙ f)))
-  not-spaced (a ∷ t) (suc i) p e = either (eqb a 32) (not-number t (not-digits t i (omega arith) e))
-    where
-      either : (b : Bool) {v : Value} → v ≡ Malformed → cond b v Malformed ≡ Malformed
-      either true f = f
-      either false f = refl
+  not-spaced (a ∷ t) (suc i) p e = cond-holds malformed (eqb a 32) (λ f. not-number t (not-digits t i (omega arith) e)) (λ f. refl)
 
   pub not-value : (t : List ℕ) (i : ℕ) → i < length t → getD t i 0 ≡ c → valueOf t ≡ Malformed
   unfolding valueOf
   not-value [] i p e = absurd (omega arith)
   not-value (a ∷ t) zero p e = simp (ne-eqb a 58 (λ f. colon (sym e ∙ f))) (not-spaced (a ∷ t) zero p e)
-  not-value (a ∷ t) (suc i) p e = either (eqb a 58) (not-spaced t i (omega arith) e) (not-spaced (a ∷ t) (suc i) p e)
-    where
-      either : (b : Bool) {v w : Value} → v ≡ Malformed → w ≡ Malformed → cond b v w ≡ Malformed
-      either true f g = f
-      either false f g = g
+  not-value (a ∷ t) (suc i) p e =
+      cond-holds malformed (eqb a 58) (λ f. not-spaced t i (omega arith) e) (λ f. not-spaced (a ∷ t) (suc i) p e)

@@ -1,5 +1,5 @@
 -- Files that begin with a header: what a reader of them promises, and what holds of all that it gives.
-use mathlib.Core.Path.{_≡_, refl, sym, _∙_, subst}
+use mathlib.Core.Path.{_≡_, sym, _∙_, subst}
 use Prim.Native.Nat.{ℕ, _≤_, _<_}
 use mathlib.Core.List.{List}
 use lib.ListN.{length}
@@ -8,6 +8,7 @@ use Rattle.rows.specs.declared.fault.Reading.{Reading}
 use Rattle.rows.specs.declared.fault.Reading.the-variants as reading
 use Rattle.rows.specs.Rules.{AllGood}
 use Rattle.rows.specs.Runs.{Run, ReadAs, EndsWithin}
+use Rattle.rows.proofs.Sofar.{reads-refused}
 use Rattle.header.specs.declared.reader.Header.{Header}
 use Rattle.header.specs.declared.reader.Header.the-variants.{Data, Refused}
 use Rattle.header.specs.Header.{headerOf, afterHeader}
@@ -17,15 +18,15 @@ use Rattle.header.proofs.Kept.{header-within}
 -- `a` is what the definition says of the header, `r` what the code found
 module _ {S : Type 0} (rest : ℕ → ℕ → ℕ → Run S) {a r : Header} (e : r ≡ a) {old : List ℕ} where
   pub reads-none : {f : Fault} {place : ℕ} → r ≡ Refused f place → ReadAs (afterHeader a rest) old old (reading.Refused f 0 place)
-  reads-none f = rw (sym e ∙ f) record { answer = refl; wrote = refl }
+  reads-none f = rw (sym e ∙ f) (reads-refused _ _)
 
   pub reads-on : {at width height : ℕ} {new : List ℕ} {x : Reading} → r ≡ Data at width height → ReadAs (rest at width height) old new x
       → ReadAs (afterHeader a rest) old new x
   reads-on f h = rw (sym e ∙ f) h
 
 -- the data that the code found begin in the input or at its end
-pub data-within : (limit : ℕ) → 0 < limit → (bytes : List ℕ) {r : Header} {at width height : ℕ} → r ≡ headerOf limit bytes → r ≡ Data at width height
-    → at ≤ length bytes
+pub data-within : (limit : ℕ) → 0 < limit → (bytes : List ℕ) {r : Header} {at width height : ℕ}
+    → r ≡ headerOf limit bytes → r ≡ Data at width height → at ≤ length bytes
 data-within limit some bytes e f = subst (Within limit (length bytes)) (sym e ∙ f) (header-within limit some bytes) .0
 
 module _ {S : Type 0} (rest : ℕ → ℕ → ℕ → Run S) where

@@ -2,17 +2,16 @@
 use mathlib.Core.Path.{_≡_, refl, ap}
 use Prim.Native.Nat.{ℕ}
 use native.Mathlib.Omega.{arith}
-use mathlib.Core.Bool.{Bool, true, false, cond}
+use mathlib.Core.Bool.{false}
 use lib.ListN.{length}
 use lib.Dec.{ltb}
-use Rattle.rows.specs.declared.fault.Fault.the-variants.{TooLong}
-use Rattle.header.specs.declared.reader.Header.the-variants.{Refused}
 use Rattle.header.specs.declared.value.Value.{Value}
 use Rattle.header.specs.declared.value.Value.the-variants.{Malformed}
 use Rattle.header.specs.Sides.{isDigit, valueOf, withWidth, withHeight}
-use Rattle.header.specs.Header.{headerFrom, unsaid, headerOf}
+use Rattle.header.specs.Header.{unsaid, headerOf}
 use Rattle.header.specs.Promises.{BadWith, NoSeparator, Within, HeaderWithin}
 use Rattle.header.proofs.Digits.{not-value}
+use Rattle.rows.proofs.Chosen.{cond-holds}
 use Rattle.header.proofs.Within.{Small, lines-within}
 
 bad-with : (c : ℕ) → isDigit c ≡ false → (c ≡ 32 → ⊥) → (c ≡ 58 → ⊥) → BadWith c
@@ -29,11 +28,7 @@ no-separator =
 
 pub header-within : HeaderWithin
 unfolding headerOf
-header-within limit some bytes = go (ltb 1073741824 (length bytes))
-  where
-    unknown : Small limit unsaid
-    unknown = record { width = omega arith; height = omega arith }
-
-    go : (t : Bool) → Within limit (length bytes) (cond t (Refused TooLong 0) (headerFrom (length bytes) limit bytes 0 unsaid))
-    go true = omega arith
-    go false = lines-within limit some (length bytes) (length bytes) bytes 0 unsaid unknown (omega arith)
+header-within limit some bytes =
+    let unknown : Small limit unsaid = record { width = omega arith; height = omega arith } in
+    cond-holds (Within limit (length bytes)) (ltb 1073741824 (length bytes)) (λ e. omega arith)
+    (λ e. lines-within limit some (length bytes) (length bytes) bytes 0 unsaid unknown (omega arith))

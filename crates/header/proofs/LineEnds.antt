@@ -3,7 +3,7 @@ use mathlib.Core.Path.{_≡_, refl, sym, _∙_, ap, subst}
 use Prim.Native.Nat.{ℕ, zero, suc, _+_, _-_, _≤_, _<_}
 use native.Mathlib.Omega.{arith}
 use native.Mathlib.Numerals.{add-one}
-use mathlib.Core.Bool.{Bool, true, false, cond, _&&_}
+use mathlib.Core.Bool.{Bool, true, cond, _&&_}
 use mathlib.Core.List.{List, [], _∷_}
 use lib.ListN.{length, drop, getD, drop-of-length-le}
 use lib.Seq.{drop-cons}
@@ -13,6 +13,7 @@ use Rattle.rows.proofs.GoodRows.{and-first, and-second}
 use Rattle.header.specs.declared.line.Line.{Line}
 use Rattle.header.specs.declared.line.Line.the-variants.{Ends, Cut, Endless}
 use Rattle.header.specs.Lines.{isLine, lineEnd}
+use Rattle.rows.proofs.Chosen.{cond-holds}
 
 -- what is left of a text from one of its bytes on
 pub drop-at : (b : List ℕ) (i : ℕ) → i < length b → drop i b ≡ getD b i 0 ∷ drop (i + 1) b
@@ -49,7 +50,9 @@ module _ {most : ℕ} {b : List ℕ} {i : ℕ} (h : Seeking most b i) where
   seeking-cut p q = h .same ∙ ap (λ (l : List ℕ). lineEnd (most - i) l i) (drop-of-length-le b q) ∙ end-cut (most - i) i (omega arith)
 
   here : i < most → i < length b → lineEnd most b 0 ≡ cond (eqb (getD b i 0) 10) (Ends i) (lineEnd (most - i - 1) (drop (i + 1) b) (i + 1))
-  here p q = h .same ∙ ap (λ (l : List ℕ). lineEnd (most - i) l i) (drop-at b i q) ∙ end-more (most - i) (getD b i 0) (drop (i + 1) b) i (omega arith)
+  here p q =
+      h .same ∙ ap (λ (l : List ℕ). lineEnd (most - i) l i) (drop-at b i q)
+      ∙ end-more (most - i) (getD b i 0) (drop (i + 1) b) i (omega arith)
 
   pub seeking-found : i < most → i < length b → getD b i 0 ≡ 10 → lineEnd most b 0 ≡ Ends i
   seeking-found p q e = here p q ∙ simp (eq-eqb _ _ e)
@@ -68,18 +71,14 @@ EndIn few most (Ends i) = (few ≤ i) × (i < most)
 EndIn few most Cut = Unit {0}
 EndIn few most Endless = Unit {0}
 
-if-end : (few most : ℕ) (a b : Line) (t : Bool) → EndIn few most a → EndIn few most b → EndIn few most (cond t a b)
-if-end few most a b true p q = p
-if-end few most a b false p q = q
-
 end-in : (few most : ℕ) (b : List ℕ) (k : ℕ) → few ≤ k → EndIn few (k + length b) (lineEnd most b k)
 unfolding lineEnd
 end-in few zero b k h = tt
 end-in few (suc most) [] k h = tt
 end-in few (suc most) (c ∷ b) k h =
     let e : k + 1 + length b ≡ k + suc (length b) = omega arith in
-    if-end few (k + suc (length b)) (Ends k) (lineEnd most b (k + 1)) (eqb c 10) (h, omega arith)
-    (subst (λ (m : ℕ). EndIn few m (lineEnd most b (k + 1))) e (end-in few most b (k + 1) (omega arith)))
+    cond-holds (EndIn few (k + suc (length b))) (eqb c 10) (λ t. (h, omega arith))
+    (λ t. subst (λ (m : ℕ). EndIn few m (lineEnd most b (k + 1))) e (end-in few most b (k + 1) (omega arith)))
 
 pub line-ends : (most : ℕ) (b : List ℕ) → EndIn 0 (length b) (lineEnd most b 0)
 line-ends most b =

@@ -1,18 +1,17 @@
--- The lines of a header: what one says, and the invariant of the loop over them.
-use mathlib.Core.Path.{_≡_, refl, sym, _∙_, ap, subst}
+-- The lines of a header: what one says, and how they are read.
+use mathlib.Core.Path.{_≡_, refl, sym, _∙_, ap}
 use Prim.Native.Nat.{ℕ, zero, suc, _+_, _-_, _≤_, _<_}
 use native.Mathlib.Omega.{arith}
-use mathlib.Core.Bool.{Bool, true, false, cond}
-use mathlib.Core.List.{List, [], _∷_}
-use lib.ListN.{length, take, drop, length-drop}
-use lib.Seq.{drop-drop}
+use mathlib.Core.Bool.{true, false}
+use mathlib.Core.List.{List, []}
+use lib.ListN.{length, take, drop}
 use borrow.Author.Tests.{le-ltb, lt-ltb}
-use Rattle.rows.specs.declared.fault.Fault.{Fault}
 use Rattle.rows.specs.declared.fault.Fault.the-variants.{TooLong, BadHeader}
 use Rattle.rows.specs.declared.fault.Fault.the-variants as refusal
 use Rattle.rows.proofs.Lists.{part-rest}
 use Rattle.header.specs.declared.line.Line.{Line}
 use Rattle.header.specs.declared.line.Line.the-variants.{Ends, Cut, Endless}
+use Rattle.header.specs.declared.reader.Header.{Header}
 use Rattle.header.specs.declared.reader.Header.the-variants.{Refused}
 use Rattle.header.specs.declared.reader.Step.{Step}
 use Rattle.header.specs.declared.reader.Step.the-variants.{Over, Stop, More}
@@ -24,8 +23,10 @@ use Rattle.header.specs.declared.side.Sides.{Sides}
 use Rattle.header.specs.declared.value.Value.{Value}
 use Rattle.header.specs.Lines.{isLine, lineEnd}
 use Rattle.header.specs.Sides.{keywordLength, sideOf, valueOf, withWidth, withHeight, judgedAs, judgedOf}
-use Rattle.header.specs.Header.{judgedStep, lineStep, stepOf, dataAt, stepThen, headerFrom, unsaid, headerOf}
+use Rattle.header.specs.Header.{judgedStep, lineStep, stepOf, stepThen, headerFrom, unsaid, headerOf}
+use Rattle.rows.proofs.Chosen.{cond-holds}
 use Rattle.header.proofs.LineEnds.{EndIn, line-ends}
+use Rattle.header.proofs.LineRules.{LineRule, LinesRead, none-read, line-is, line-more}
 
 -- a text whose keyword has n bytes and names a side
 module _ (limit : ℕ) (text : List ℕ) (s : Sides) {n : ℕ} {side : Side} (e : n ≡ keywordLength text) (f : side ≡ sideOf (take n text)) where
@@ -89,66 +90,43 @@ line-step-in limit b s Endless h = tt
 
 pub step-in : (limit : ℕ) (b : List ℕ) (s : Sides) → StepIn (length b) (stepOf limit b s)
 unfolding stepOf
-step-in limit b s = go (isLine b)
-  where
-    go : (t : Bool) → StepIn (length b) (cond t (lineStep (lineEnd 256 b 0) limit b s) Over)
-    go true = line-step-in limit b s (lineEnd 256 b 0) (line-ends 256 b)
-    go false = tt
+step-in limit b s = cond-holds (StepIn (length b)) (isLine b) (λ e. line-step-in limit b s (lineEnd 256 b 0) (line-ends 256 b)) (λ e. tt)
 
--- one step, as long as there are bytes to come
-header-step : (most limit : ℕ) (b : List ℕ) (place : ℕ) (s : Sides) → length b ≤ most
-    → headerFrom most limit b place s ≡ stepThen (stepOf limit b s) limit place s (λ long s′. headerFrom (most - 1) limit (drop long b) (place + long) s′)
+-- how the lines of a header are read
+pub rule-end : (limit : ℕ) (s : Sides) (place : ℕ) (rest : ℕ → Sides → Header)
+    → headerFrom zero limit [] place s ≡ stepThen (stepOf limit [] s) limit place s rest
 unfolding headerFrom stepOf isLine
-header-step zero limit [] place s h = refl
-header-step zero limit (c ∷ b) place s h = absurd (omega arith)
-header-step (suc most) limit b place s h =
-    let e : most ≡ suc most - 1 = omega arith in
-    ap (λ (k : ℕ). stepThen (stepOf limit b s) limit place s (λ long s′. headerFrom k limit (drop long b) (place + long) s′)) e
+rule-end limit s place rest = refl
 
--- the lines before `at` are good, and s is known after them
-pub record Heading (limit : ℕ) (bytes : List ℕ) (s : Sides) (at : ℕ) : Type 0 where
-  pub most : ℕ
-  pub enough : length bytes ≤ at + most
-  pub same : headerOf limit bytes ≡ headerFrom most limit (drop at bytes) at s
-  pub within : at ≤ length bytes
+pub rule-next : (limit most : ℕ) (s : Sides) (b : List ℕ) (place : ℕ)
+    → headerFrom (suc most) limit b place s
+    ≡ stepThen (stepOf limit b s) limit place s (λ long s′. headerFrom most limit (drop long b) (place + long) s′)
+unfolding headerFrom
+rule-next limit most s b place = refl
 
-pub heading-none : {limit : ℕ} {bytes : List ℕ} → length bytes ≤ 1073741824 → Heading limit bytes unsaid 0
+abbrev pub rule : ℕ → LineRule Header Sides Step
+rule limit =
+    record {
+      step = λ s b. stepOf limit b s;
+      then = λ r s place rest. stepThen r limit place s rest;
+      from = λ most s b place. headerFrom most limit b place s;
+      end = rule-end limit;
+      next = rule-next limit;
+    }
+
+-- the loop over them
+pub header-start : {limit : ℕ} {bytes : List ℕ} → length bytes ≤ 1073741824 → LinesRead (rule limit) bytes (headerOf limit bytes) unsaid 0
 unfolding headerOf
-heading-none {limit} {bytes} h = record { most = length bytes; enough = omega arith; same = simp (le-ltb _ _ h); within = omega arith }
+header-start {limit} h = none-read (rule limit) (simp (le-ltb _ _ h))
 
-pub heading-long : (limit : ℕ) (bytes : List ℕ) → 1073741824 < length bytes → Refused TooLong 0 ≡ headerOf limit bytes
+pub header-long : (limit : ℕ) (bytes : List ℕ) → 1073741824 < length bytes → Refused TooLong 0 ≡ headerOf limit bytes
 unfolding headerOf
-heading-long limit bytes h = simp (lt-ltb _ _ h)
+header-long limit bytes h = simp (lt-ltb _ _ h)
 
-module _ {limit : ℕ} {bytes : List ℕ} {s : Sides} {at : ℕ} (h : Heading limit bytes s at) {r : Step}
-    (e : r ≡ stepOf limit (take (length bytes - at) (drop at bytes)) s) where
-  found : r ≡ stepOf limit (drop at bytes) s
-  found = e ∙ ap (λ (b : List ℕ). stepOf limit b s) (part-rest at bytes)
+module _ {limit : ℕ} {bytes : List ℕ} {whole : Header} {s : Sides} {at : ℕ} (h : LinesRead (rule limit) bytes whole s at) {r : Step}
+    (e : r ≡ stepOf limit (take (length bytes - at) (drop at bytes)) s) {long : ℕ} {s′ : Sides} (f : r ≡ More long s′) where
+  pub good-line-in : (1 ≤ long) × (long ≤ length bytes - at)
+  good-line-in = line-is h e f StepIn (λ b. step-in limit b s)
 
-  turned : {r′ : Step} → r ≡ r′
-      → headerOf limit bytes ≡ stepThen r′ limit at s (λ long s′. headerFrom (h .most - 1) limit (drop long (drop at bytes)) (at + long) s′)
-  turned f =
-      h .same ∙ header-step (h .most) limit (drop at bytes) at s (omega (arith, h .enough, length-drop at bytes))
-      ∙ ap (λ (x : Step). stepThen x limit at s (λ long s′. headerFrom (h .most - 1) limit (drop long (drop at bytes)) (at + long) s′)) (sym found ∙ f)
-
-  pub heading-over : r ≡ Over → dataAt limit at s ≡ headerOf limit bytes
-  heading-over f = sym (turned f)
-
-  pub heading-stop : {f : Fault} → r ≡ Stop f → Refused f at ≡ headerOf limit bytes
-  heading-stop f = sym (turned f)
-
-  module _ {long : ℕ} {s′ : Sides} (f : r ≡ More long s′) where
-    pub heading-moves : (1 ≤ long) × (at + long ≤ length bytes)
-    heading-moves =
-        let w : (1 ≤ long) × (long ≤ length (drop at bytes)) =
-        subst (StepIn (length (drop at bytes))) (sym found ∙ f) (step-in limit (drop at bytes) s) in
-        (w .0, omega (arith, w .1, length-drop at bytes, h .within))
-
-    pub heading-more : Heading limit bytes s′ (at + long)
-    heading-more =
-        record {
-          most = h .most - 1;
-          enough = omega (arith, h .enough, heading-moves .0);
-          same = turned f ∙ rw drop-drop;
-          within = heading-moves .1;
-        }
+  pub good-line-read : LinesRead (rule limit) bytes whole s′ (at + long)
+  good-line-read = line-more h e f (λ rest. refl) good-line-in

@@ -1,8 +1,7 @@
 -- The data begin in the input, and the sides are from 1 to the limit.
-use mathlib.Core.Path.{_≡_, refl}
 use Prim.Native.Nat.{ℕ, zero, suc, _+_, _-_, _≤_, _<_}
 use native.Mathlib.Omega.{arith}
-use mathlib.Core.Bool.{Bool, true, false, cond, _&&_}
+use mathlib.Core.Bool.{cond, _&&_}
 use mathlib.Core.List.{List}
 use lib.ListN.{length, take, drop, length-drop}
 use lib.Dec.{leb, eqb}
@@ -23,6 +22,7 @@ use Rattle.header.specs.Lines.{isLine, lineEnd}
 use Rattle.header.specs.Sides.{keywordLength, sideOf, valueOf, mayBe, withWidth, withHeight, judgedAs, judgedOf, orLimit}
 use Rattle.header.specs.Header.{judgedStep, lineStep, stepOf, dataAt, stepThen, headerFrom}
 use Rattle.header.specs.Promises.{Within}
+use Rattle.rows.proofs.Chosen.{cond-holds}
 use Rattle.header.proofs.Lines.{StepIn, step-in}
 
 module _ (limit : ℕ) where
@@ -36,16 +36,16 @@ module _ (limit : ℕ) where
   JudgedSmall Bad = Unit {0}
 
   -- a side that a line gives
-  if-may : (before n : ℕ) (s : Sides) → (n ≤ limit → Small s) → (t : Bool) → mayBe limit before n ≡ t → JudgedSmall (cond t (Good s) Bad)
-  if-may before n s h true e = h (leb-true n limit (and-second (eqb before 0 && leb 1 n) (leb n limit) e))
-  if-may before n s h false e = tt
+  may-be-small : (before n : ℕ) (s : Sides) → (n ≤ limit → Small s) → JudgedSmall (cond (mayBe limit before n) (Good s) Bad)
+  may-be-small before n s h =
+      cond-holds JudgedSmall (mayBe limit before n) (λ e. h (leb-true n limit (and-second (eqb before 0 && leb 1 n) (leb n limit) e))) (λ e. tt)
 
   width-small : (v : Value) (s : Sides) → Small s → JudgedSmall (withWidth limit v s)
-  width-small (Number n) s h = if-may (s .width) n _ (λ k. record { width = k; height = h .height }) (mayBe limit (s .width) n) refl
+  width-small (Number n) s h = may-be-small (s .width) n _ (λ k. record { width = k; height = h .height })
   width-small Malformed s h = tt
 
   height-small : (v : Value) (s : Sides) → Small s → JudgedSmall (withHeight limit v s)
-  height-small (Number n) s h = if-may (s .height) n _ (λ k. record { width = h .width; height = k }) (mayBe limit (s .height) n) refl
+  height-small (Number n) s h = may-be-small (s .height) n _ (λ k. record { width = h .width; height = k })
   height-small Malformed s h = tt
 
   judged-small : (text : List ℕ) (s : Sides) → Small s → JudgedSmall (judgedOf limit text s)
@@ -74,18 +74,11 @@ module _ (limit : ℕ) where
 
   step-small : (b : List ℕ) (s : Sides) → Small s → StepSmall (stepOf limit b s)
   unfolding stepOf
-  step-small b s h = go (isLine b)
-    where
-      go : (t : Bool) → StepSmall (cond t (lineStep (lineEnd 256 b 0) limit b s) Over)
-      go true = line-small b s h (lineEnd 256 b 0)
-      go false = tt
+  step-small b s h = cond-holds StepSmall (isLine b) (λ e. line-small b s h (lineEnd 256 b 0)) (λ e. tt)
 
   side-within : (some : 0 < limit) (n : ℕ) → n ≤ limit → (1 ≤ orLimit limit n) × (orLimit limit n ≤ limit)
-  side-within some n h = go (eqb n 0) refl
-    where
-      go : (t : Bool) → eqb n 0 ≡ t → (1 ≤ cond t limit n) × (cond t limit n ≤ limit)
-      go true e = (omega arith, omega arith)
-      go false e = let z : n ≡ 0 → ⊥ = eqb-false n 0 e in (omega (arith, z), h)
+  side-within some n h =
+      cond-holds (λ (m : ℕ). (1 ≤ m) × (m ≤ limit)) (eqb n 0) (λ e. (omega arith, omega arith)) (λ e. (omega (arith, eqb-false n 0 e), h))
 
   -- all of a header that begins at a place, before so many bytes
   module _ (some : 0 < limit) (bytes : ℕ) where
@@ -95,11 +88,13 @@ module _ (limit : ℕ) where
         let v : (1 ≤ orLimit limit (s .height)) × (orLimit limit (s .height) ≤ limit) = side-within some (s .height) (k .height) in
         (h, w .0, w .1, v .0, v .1)
 
-    pub lines-within : (most : ℕ) (b : List ℕ) (place : ℕ) (s : Sides) → Small s → place + length b ≤ bytes → Within limit bytes (headerFrom most limit b place s)
+    pub lines-within : (most : ℕ) (b : List ℕ) (place : ℕ) (s : Sides) → Small s → place + length b ≤ bytes
+        → Within limit bytes (headerFrom most limit b place s)
     unfolding headerFrom
     lines-within zero b place s k h = over-within place s k (omega arith)
     lines-within (suc most) b place s k h =
-        go (stepOf limit b s) (step-in limit b s) (step-small b s k) (λ long s′ p q. lines-within most (drop long b) (place + long) s′ q (omega (arith, length-drop long b)))
+        go (stepOf limit b s) (step-in limit b s) (step-small b s k)
+        (λ long s′ p q. lines-within most (drop long b) (place + long) s′ q (omega (arith, length-drop long b)))
       where
         go : (r : Step) → StepIn (length b) r → StepSmall r
             → ((long : ℕ) (s′ : Sides) → long ≤ length b → Small s′ → Within limit bytes (headerFrom most limit (drop long b) (place + long) s′))

@@ -21,12 +21,13 @@ use Rattle.header.specs.declared.side.Sides.{Sides}
 use Rattle.header.specs.Lines.{isLine, lineEnd}
 use Rattle.header.specs.Sides.{judgedOf, orLimit}
 
--- the line at the front of b: cut by the end of the input 4, otherwise bad 9, or good and what is known after it. Its text lies between
--- the first two bytes and the newline at i
+-- a line with its newline at i, by its text: bad 9, or good and what is known after it
 abbrev pub judgedStep : ℕ → Judged → Step
 judgedStep i (Good s) = More (i + 1) s
 judgedStep i Bad = Stop BadHeader
 
+-- the line at the front of b: cut by the end of the input 4, without an end 9, else as its text says, which lies between the first two
+-- bytes and the newline
 abbrev pub lineStep : Line → ℕ → List ℕ → Sides → Step
 lineStep (Ends i) limit b s = judgedStep i (judgedOf limit (take (i - 2) (drop 2 b)) s)
 lineStep Cut limit b s = Stop refusal.Cut

@@ -22,11 +22,13 @@ use Rattle.raw.specs.Reader.{wordsAs}
 
 -- the words of the format that the code matched on
 module _ {format : Format} (width height : ℕ) (bytes : List ℕ) (room : ℕ) {old new : List ℕ} {r : Reading} where
-  pub reads-evt2 : format ≡ Evt2 → ReadAs (evt2Reader.readingOf (pictureOf width height) bytes room) old new r → ReadAs (wordsAs format width height bytes room) old new r
+  pub reads-evt2 : format ≡ Evt2 → ReadAs (evt2Reader.readingOf (pictureOf width height) bytes room) old new r
+      → ReadAs (wordsAs format width height bytes room) old new r
   unfolding wordsAs
   reads-evt2 e h = rw e (reads-as _ h)
 
-  pub reads-evt3 : format ≡ Evt3 → ReadAs (evt3Reader.readingOf (pictureOf width height) bytes room) old new r → ReadAs (wordsAs format width height bytes room) old new r
+  pub reads-evt3 : format ≡ Evt3 → ReadAs (evt3Reader.readingOf (pictureOf width height) bytes room) old new r
+      → ReadAs (wordsAs format width height bytes room) old new r
   unfolding wordsAs
   reads-evt3 e h = rw e (reads-as _ h)
 
@@ -35,10 +37,15 @@ unfolding wordsAs
 words-good Evt2 width height bytes room = evt2.read-good (pictureOf width height) bytes room
 words-good Evt3 width height bytes room = evt3.read-good (pictureOf width height) bytes room
 
-pub words-within : (format : Format) (width height : ℕ) (bytes : List ℕ) (room : ℕ) → EndsWithin (wordsAs format width height bytes room .ending) (length bytes)
+words-within : (format : Format) (width height : ℕ) (bytes : List ℕ) (room : ℕ)
+    → EndsWithin (wordsAs format width height bytes room .ending) (length bytes)
 unfolding wordsAs
-words-within Evt2 width height bytes room = as-within _ (evt2Reader.readingOf (pictureOf width height) bytes room .ending) (length bytes) (evt2.read-within (pictureOf width height) bytes room)
-words-within Evt3 width height bytes room = as-within _ (evt3Reader.readingOf (pictureOf width height) bytes room .ending) (length bytes) (evt3.read-within (pictureOf width height) bytes room)
+words-within Evt2 width height bytes room =
+    let p = pictureOf width height in
+    as-within _ (evt2Reader.readingOf p bytes room .ending) (length bytes) (evt2.read-within p bytes room)
+words-within Evt3 width height bytes room =
+    let p = pictureOf width height in
+    as-within _ (evt3Reader.readingOf p bytes room .ending) (length bytes) (evt3.read-within p bytes room)
 
 -- the words from a place of a file on, read as a part of it
 module _ (format : Format) (width height : ℕ) (bytes : List ℕ) (at room : ℕ) (there : at ≤ length bytes) {old new : List ℕ} {r : Reading}
@@ -50,11 +57,13 @@ module _ (format : Format) (width height : ℕ) (bytes : List ℕ) (at room : �
   reads-words e = reads-from from-data at e
 
   pub place-within : {f : Fault} {n place : ℕ} → r ≡ Refused f n place → at + place ≤ length bytes
-  place-within e = omega (arith, there, length-drop at bytes, reads-place from-data (length (drop at bytes)) (words-within format width height (drop at bytes) room) e)
+  place-within e =
+      let inside = words-within format width height (drop at bytes) room in
+      omega (arith, there, length-drop at bytes, reads-place from-data (length (drop at bytes)) inside e)
 
 -- the places of words from there on
 pub from-there : (format : Format) (width height : ℕ) (bytes : List ℕ) (at room : ℕ) → at ≤ length bytes
     → EndsWithin (runFrom at (wordsAs format width height (drop at bytes) room) .ending) (length bytes)
 from-there format width height bytes at room h =
-    from-within at (wordsAs format width height (drop at bytes) room .ending) (length (drop at bytes)) (length bytes) (words-within format width height (drop at bytes) room)
-    (omega (arith, h, length-drop at bytes))
+    from-within at (wordsAs format width height (drop at bytes) room .ending) (length (drop at bytes)) (length bytes)
+    (words-within format width height (drop at bytes) room) (omega (arith, h, length-drop at bytes))

@@ -14,7 +14,7 @@ use lib.Ieee.Scale.{round-same}
 use lib.Ieee.Fits.{down-pos}
 use lib.Ieee.Bits.{nanBits-is, nanBits-above, toBits-ofBits}
 use borrow.Author.Tests.{lt-ltb, le-ltb, ltb-true, ltb-false}
-use Rattle.rows.specs.Readings.{signedOf, accelerationOf, singleOf, isNegative, Times}
+use Rattle.rows.specs.Readings.{signedOf, accelerationOf, rotationOf, singleOf, isNegative, Times}
 
 -- a negative number's single is that of its size, negated
 neg-odd : (d q k l : ℕ) → neg (odd d false q k l) ≡ odd d true q k l
@@ -72,6 +72,12 @@ quotient-exact (fin true m e) s n h v =
 quotient-exact (fin false m e) s n h v =
     subst (λ (t : Bool). HasValue (round binary32 false (m * up e * 1) (16384 * down e)) t n 16384) (v .0) (quotient false (m * up e) (down e) n (down-pos e) h (v .1))
 
+rounded : (t : Bool) (m : ℕ) (e : ℤ) (s : Bool) (n : ℕ) → HasValue (fin t m e) s n 1 → round binary32 t (m * up e * 1) (131 * down e) ≡ round binary32 s n 131
+rounded t m e s n v =
+    let same : m * up e * 1 * 131 ≡ n * (131 * down e) = ap (λ (x : ℕ). x * 131) (v .1) ∙ mul-assoc n (down e) 131 ∙ ap (λ (x : ℕ). n * x) (mul-comm (down e) 131) in
+    round-same binary32 t (m * up e * 1) (131 * down e) n 131 (omega (arith, down-pos e)) (lit< tt) same
+    ∙ ap (λ (b : Bool). round binary32 b n 131) (v .0)
+
 signed-small : (c : ℕ) → c < 65536 → natAbs (signedOf c) < 2 ^ 24
 signed-small c h = go (ltb c 32768) refl
   where
@@ -79,9 +85,19 @@ signed-small c h = go (ltb c 32768) refl
     go true e = subst (λ (z : ℤ). natAbs z < 2 ^ 24) (sym (signed-low c (ltb-true _ _ e))) (omega arith)
     go false e = subst (λ (z : ℤ). natAbs z < 2 ^ 24) (sym (signed-high c (ltb-false _ _ e) h)) (omega arith)
 
+-- and divided by 131 it is rounded once
+quotient-rounded : (x : Float) (s : Bool) (n : ℕ) → HasValue x s n 1 → div binary32 x (fin false 131 (pos 0)) ≡ round binary32 s n 131
+unfolding div
+quotient-rounded (fin true m e) s n v = rounded true m e s n v
+quotient-rounded (fin false m e) s n v = rounded false m e s n v
+
 divisor : ofInt binary32 (pos 16384) ≡ fin false 1 (pos 14)
 unfolding ofInt
 divisor = refl
+
+divisor-131 : ofInt binary32 (pos 131) ≡ fin false 131 (pos 0)
+unfolding ofInt
+divisor-131 = refl
 
 pub acceleration-exact : (c : ℕ) → c < 65536 → Times (accelerationOf c) 16384 (signedOf c)
 unfolding accelerationOf
@@ -89,6 +105,13 @@ acceleration-exact c h =
     let z : ℤ = signedOf c in
     subst (λ (d : Float). Times (div binary32 (ofInt binary32 z) d) 16384 z) (sym divisor)
     (quotient-exact (ofInt binary32 z) (isNegative z) (natAbs z) (signed-small c h) (whole-exact z (omega (arith, signed-small c h))))
+
+pub rotation-rounded : (c : ℕ) → c < 65536 → rotationOf c ≡ round binary32 (isNegative (signedOf c)) (natAbs (signedOf c)) 131
+unfolding rotationOf
+rotation-rounded c h =
+    let z : ℤ = signedOf c in
+    ap (div binary32 (ofInt binary32 z)) divisor-131
+    ∙ quotient-rounded (ofInt binary32 z) (isNegative z) (natAbs z) (whole-exact z (omega (arith, signed-small c h)))
 
 pub acceleration-zero : accelerationOf 0 ≡ fin false 0 (pos 0)
 unfolding accelerationOf div ofInt

@@ -67,7 +67,7 @@ judged-is-time writable r last {t} e = go (goodRow r && writable) (ltb (timeOf r
     go true false f = cc
     go false b f = let z : _≡_ {A = ℕ} 0 1 = cc in absurd (omega arith)
 
--- and no row before the last
+-- and its time is not below the last
 pub judged-later : (writable : Bool) (r : Row) (last : ℕ) {t : ℕ} → Time t ≡ judgedOf writable r last → last ≤ t
 unfolding judgedOf
 judged-later writable r last {t} e = go (goodRow r && writable) (ltb (timeOf r) last) refl e

@@ -20,7 +20,7 @@ use Rattle.rows.specs.Rules.{kindOf, goodAs, goodRow}
 use Rattle.rows.specs.Readings.{signedOf, accelerationOf, isNegative}
 use Rattle.rows.specs.Event.{countsEvent, singlesEvent, eventAs, eventOf, eventTime}
 use Rattle.rows.specs.Runs.{Ending, finished, refused, resume, andThen}
-use Rattle.rows.specs.Promises.{EventRefused, EventTimed, AccelerationExact, AccelerationOnly, AccelerationZero, SingleBits, RowsOfFlat, FlatOfRows, OverKept, MadeGood, GoodIsMade, VerdictWritable, AndThenGrouped}
+use Rattle.rows.specs.Promises.{EventRefused, EventTimed, AccelerationExact, AccelerationOnly, AccelerationZero, RotationRounded, SingleBits, RowsOfFlat, FlatOfRows, OverKept, MadeGood, GoodIsMade, VerdictWritable, AndThenGrouped}
 use Rattle.rows.proofs.Floats as floats
 use Rattle.rows.proofs.GoodRows.{timed-time, pixel-good, trigger-good, counts-good, singles-good, packet-good, special-good}
 use Rattle.rows.proofs.Judged.{accepted-writable, writable-accepted}
@@ -82,6 +82,9 @@ acceleration-only c h x f v =
 
 pub acceleration-zero : AccelerationZero
 acceleration-zero = floats.acceleration-zero
+
+pub rotation-rounded : RotationRounded
+rotation-rounded = floats.rotation-rounded
 
 pub single-bits : SingleBits
 single-bits = floats.single-bits

@@ -2,21 +2,21 @@
 use mathlib.Core.Path.{_≡_, refl, sym, _∙_, ap, ap₂}
 use Prim.Native.Nat.{ℕ, _+_, _-_, _*_, _/_, _≤_, _<_}
 use native.Mathlib.Omega.{arith}
-use mathlib.Core.Bool.{Bool, true, false}
-use mathlib.Core.List.{List, [], _∷_, _++_}
+use mathlib.Core.List.{List, [], _++_}
 use lib.ListN.{length, length-append}
 use lib.Seq.{sets, length-sets}
 use borrow.Author.Tests.{le-leb, lt-leb}
 use Rattle.rows.specs.declared.fault.Fault.{Fault}
 use Rattle.rows.specs.declared.fault.Fault.the-variants.{NoRoom}
 use Rattle.rows.specs.declared.fault.Reading.{Reading}
+use Rattle.rows.specs.declared.fault.Reading.the-variants as reading
 use Rattle.rows.specs.declared.fault.ReadingNumbers.{ReadingNumbers}
 use Rattle.rows.specs.declared.row.Row.{Row}
 use Rattle.rows.specs.Fault.{readingNumbers}
-use Rattle.rows.specs.Row.{flat, roomOf, PutRow}
+use Rattle.rows.specs.Row.{flat, roomOf}
 use Rattle.rows.specs.Runs.{Ending, finished, refused, Run, prepend, stopped, give, andThen, endingAs, runAs, answerOf, ReadAs, ReadNumbers, Did}
 use Rattle.rows.proofs.Sequence.{prepend-none, prepend-both}
-use Rattle.rows.proofs.Stored.{flat-append, flat-length, sets-append, sets-over, put-row-fits, put-row-full}
+use Rattle.rows.proofs.Stored.{flat-append, flat-length, sets-append, sets-over}
 
 -- `rest room` is the run of what is left with so much room. n₀ rows were in `old` before the whole run, n are in `buf` now
 pub record Sofar {S : Type 0} (whole : Run S) (old : List ℕ) (n₀ : ℕ) (rest : ℕ → Run S) (n : ℕ) (buf : List ℕ) : Type 0 where
@@ -91,15 +91,6 @@ module _ {S : Type 0} {whole : Run S} {old : List ℕ} {n₀ : ℕ} {rest : ℕ 
     pub sofar-full : roomOf old < n + length new → Did whole old n₀ (refused NoRoom place) n buf
     sofar-full f = sofar-ends h (e ∙ simp (lt-leb (length new) (roomOf old - n) (omega (arith, h .fits))))
 
-  -- one row is next, and was put or did not fit
-  module _ (rest′ : ℕ → Run S) (row : Row) (place : ℕ) (e : rest (roomOf old - n) ≡ give (row ∷ []) place (roomOf old - n) rest′)
-      {buf′ : List ℕ} {r : Bool} (put : PutRow buf n row buf′ r) where
-    pub sofar-put : r ≡ true → Sofar whole old n₀ rest′ (n + 1) buf′
-    sofar-put t = sofar-give rest′ (row ∷ []) place e refl (omega (arith, put-row-fits put t .0, sofar-room)) (put-row-fits put t .1)
-
-    pub sofar-not-put : r ≡ false → Did whole old n₀ (refused NoRoom place) n buf′
-    sofar-not-put t = rw (put-row-full put t .1) (sofar-full rest′ (row ∷ []) place e (omega (arith, put-row-full put t .0, sofar-room)))
-
   -- a part is next, and was read by another function
   module _ {T : Type 0} (sub : Run T) (rest′ : T → ℕ → Run S) (e : rest (roomOf old - n) ≡ andThen sub (roomOf old - n) rest′) where
     pub sofar-sub : {t : T} {n′ : ℕ} {buf′ : List ℕ} → Did sub buf n (finished t) n′ buf′ → Sofar whole old n₀ (rest′ t) n′ buf′
@@ -137,3 +128,7 @@ module _ {S : Type 0} {whole : Run S} {old : List ℕ} {e : Ending S} {n : ℕ} 
 pub reads-numbers : {S : Type 0} {whole : Run S} {old new : List ℕ} {x : Reading} {r : ReadingNumbers}
     → ReadAs whole old new x → r ≡ readingNumbers x → ReadNumbers whole old new r
 reads-numbers h e = record { answer = e ∙ ap readingNumbers (h .answer); wrote = h .wrote }
+
+-- refused before the first row
+pub reads-refused : {S : Type 0} (f : Fault) (place : ℕ) {old : List ℕ} → ReadAs {S = S} (stopped (refused f place)) old old (reading.Refused f 0 place)
+reads-refused f place = record { answer = refl; wrote = refl }

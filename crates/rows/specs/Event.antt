@@ -54,6 +54,7 @@ eventTime (ImuSingles t ax ay az rx ry rz k p) = t
 eventTime (UsbPacket t f n s) = t
 eventTime (Special t c n) = t
 
+-- a reading that there is not
 abbrev pub plusZero : Float
 plusZero = ofBits binary32 0
 

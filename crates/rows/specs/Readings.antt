@@ -21,6 +21,7 @@ rotationOf c = div binary32 (ofInt binary32 (signedOf c)) (ofInt binary32 (pos 1
 abbrev pub singleOf : ℕ → Float
 singleOf n = ofBits binary32 n
 
+-- the sign of a count
 abbrev pub isNegative : ℤ → Bool
 isNegative (pos n) = false
 isNegative (negsuc n) = true

@@ -116,8 +116,8 @@ module _ (size : ℕ) (some : 0 < size) where
       ∙ ap (word (value (take size xs))) (words-join k (drop size xs) ys s)
       ∙ sym (ap (λ (r : Words). join r (wordsOf size ys)) (words-one xs f))
 
--- nothing stands past the end
-pub at-end : (size : ℕ) → 0 < size → (l : List ℕ) (at : ℕ) → length l < at → End ≡ nextAt size l at
+-- nothing stands at the end and past it
+pub at-end : (size : ℕ) → 0 < size → (l : List ℕ) (at : ℕ) → length l ≤ at → End ≡ nextAt size l at
 at-end size some l at h = first-end size some (drop at l) (omega (arith, length-drop at l))
 
 -- what stands at the front of a part that begins at a place stands at the place

@@ -14,7 +14,7 @@ use Rattle.words.specs.Words.{value, Words, word, whole, part, cutBy, wo
 use Rattle.words.specs.Machine.{Outcome, next, fault, Given, gives, refuses, onto, Machine, Reached, after, run, closed, reading, readFrom, Follows}
 
 -- the bytes of the whole words of a stream
-abbrev pub bytesIn : ℕ → Words → ℕ
+abbrev bytesIn : ℕ → Words → ℕ
 bytesIn size (word w ws) = size + bytesIn size ws
 bytesIn size whole = 0
 bytesIn size part = 0
@@ -89,3 +89,10 @@ module _ {S : Type 0} (Kept : S → ℕ → Type 0) where
       → ((s : S) (place w : ℕ) → Kept s place → Stays (m .step s place w) (place + m .size)) → Follows m Kept
   stays-follows m o h =
       record { origin = o; step = λ s place w s′ new k e. subst (λ (a : Outcome S). Stays a (place + m .size)) e (h s place w k) }
+
+-- a machine without groups, where nothing is asked of the state
+abbrev pub Any : {S : Type 0} → S → ℕ → Type 0
+Any s place = Unit {0}
+
+pub alone-follows : {S : Type 0} (m : Machine S) → ((s : S) (place : ℕ) → m .origin s place ≡ place) → Follows m Any
+alone-follows m e = record { origin = λ s place h. omega (arith, e s place); step = λ s place w s′ new h f. tt }

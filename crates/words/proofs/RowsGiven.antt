@@ -13,6 +13,7 @@ use Rattle.rows.specs.declared.row.Row.{Row}
 use Rattle.rows.specs.Rules.{AllGood}
 use Rattle.rows.specs.Runs.{Ending, finished, refused, Run, prepend, stopped, resume}
 use Rattle.rows.proofs.GoodRows.{all-good-append}
+use Rattle.rows.proofs.Chosen.{cond-holds}
 use Rattle.words.specs.Words.{Words, word, whole, part}
 use Rattle.words.specs.Machine.{Outcome, next, fault, Given, gives, refuses, refusedIf, onto, Machine, Reached, after, run, closed, reading, Keeps}
 
@@ -75,8 +76,7 @@ Good (gives new) = AllGood new
 Good (refuses f) = Unit {0}
 
 pub if-good : (a b : Given) (t : Bool) → Good a → Good b → Good (cond t a b)
-if-good a b true f g = f
-if-good a b false f g = g
+if-good a b t f g = cond-holds Good t (λ e. f) (λ e. g)
 
 module _ {S : Type 0} (Kept : S → Type 0) where
   abbrev pub Fine : Outcome S → Type 0

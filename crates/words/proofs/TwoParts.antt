@@ -1,4 +1,4 @@
--- A run of words in two parts, and the room that a run takes, over any machine.
+-- A run of words in two parts, over any machine.
 use mathlib.Core.Path.{_≡_, refl, sym, _∙_, ap}
 use Prim.Native.Nat.{ℕ, _+_, _-_}
 use native.Mathlib.Omega.{arith}

@@ -3,13 +3,11 @@ use mathlib.Core.Path.{_≡_, refl, sym, _∙_, ap, subst}
 use Prim.Native.Nat.{ℕ, _+_, _*_, _≤_}
 use native.Mathlib.Omega.{arith}
 use native.Mathlib.Nat.{add-mul}
-use mathlib.Core.Bool.{Bool}
 use mathlib.Core.List.{List, [], _∷_, _++_, append-assoc, append-nil}
 use lib.ListN.{length, length-append}
 use lib.Seq.{sets, length-sets}
-use borrow.Author.Tests.{le-leb}
 use Rattle.rows.proofs.Stored.{sets-append}
-use Rattle.words.specs.Words.{bytesOf, bytesOfAll, PutWord}
+use Rattle.words.specs.Words.{bytesOf, bytesOfAll}
 use Rattle.words.specs.Writer.{PutWords}
 use Rattle.words.proofs.Bytes.{bytes-length}
 
@@ -18,7 +16,7 @@ pub all-length : (size : ℕ) (ws : List ℕ) → length (bytesOfAll size ws) �
 all-length size [] = omega arith
 all-length size (w ∷ ws) = omega (arith, length-append (bytesOf size w) (bytesOfAll size ws), bytes-length size w, all-length size ws, add-mul 1 (length ws) size)
 
-pub all-append : (size : ℕ) (a b : List ℕ) → bytesOfAll size (a ++ b) ≡ bytesOfAll size a ++ bytesOfAll size b
+all-append : (size : ℕ) (a b : List ℕ) → bytesOfAll size (a ++ b) ≡ bytesOfAll size a ++ bytesOfAll size b
 all-append size [] b = refl
 all-append size (w ∷ a) b = ap (λ (l : List ℕ). bytesOf size w ++ l) (all-append size a b) ∙ sym (append-assoc (bytesOf size w) (bytesOfAll size a) (bytesOfAll size b))
 

@@ -46,8 +46,8 @@ no-refused-full e = let z : _≡_ {A = ℕ} 0 1 = cc in absurd (omega arith)
 same-rows : {m n : ℕ} → Rows m ≡ Rows n → m ≡ n
 same-rows e = cc
 
-same-refused : {f g : Fault} → Refused f ≡ Refused g → f ≡ g
-same-refused e = cc
+same-fault : {f g : Fault} → Refused f ≡ Refused g → f ≡ g
+same-fault e = cc
 
 -- a refused word
 pub gave-refused : (f : Fault) (n : ℕ) (old : List ℕ) → GaveAs (refuses f) n old old (Refused f)
@@ -96,7 +96,7 @@ gave-all (gives new) {n} {old} {buf} {k} h = go (leb (n + length new) (roomOf ol
 
 -- a refusal of the word's own
 pub gave-fault : (g : Given) {n : ℕ} {old buf : List ℕ} {f : Fault} → GaveAs g n old buf (Refused f) → (g ≡ refuses f) × (buf ≡ old)
-gave-fault (refuses f′) h = (ap refuses (sym (same-refused (h .answer))), h .wrote)
+gave-fault (refuses f′) h = (ap refuses (sym (same-fault (h .answer))), h .wrote)
 gave-fault (gives new) {n} {old} {buf} {f} h = go (leb (n + length new) (roomOf old)) (h .answer)
   where
     go : (t : Bool) → Refused f ≡ cond t (Rows (n + length new)) Full → (gives new ≡ refuses f) × (buf ≡ old)

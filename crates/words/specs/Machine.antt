@@ -30,6 +30,7 @@ abbrev pub onto : {S : Type 0} → Given → S → Outcome S
 onto (gives new) s = next s new
 onto (refuses f) s = fault f
 
+-- a format of words
 pub record Machine (S : Type 0) : Type 0 where
   -- the bytes of a word
   pub size : ℕ

@@ -1,11 +1,9 @@
 -- Words of a stream of bytes, the low byte first. 01, "What the box reads and writes".
-use mathlib.Core.Path.{_≡_}
 use Prim.Native.Nat.{ℕ, zero, suc, _+_, _*_, _/_, _%_}
-use mathlib.Core.Bool.{Bool, cond}
+use mathlib.Core.Bool.{cond}
 use mathlib.Core.List.{List, [], _∷_, _++_}
 use lib.ListN.{length, take, drop}
-use lib.Seq.{sets}
-use lib.Dec.{leb, ltb, eqb}
+use lib.Dec.{ltb, eqb}
 use Rattle.words.specs.declared.Next.{Next}
 use Rattle.words.specs.declared.Next.the-variants.{Word, Part, End}
 
@@ -50,8 +48,3 @@ bytesOf (suc size) w = w % 256 ∷ bytesOf size (w / 256)
 abbrev pub bytesOfAll : ℕ → List ℕ → List ℕ
 bytesOfAll size [] = []
 bytesOfAll size (w ∷ ws) = bytesOf size w ++ bytesOfAll size ws
-
--- a word was stored at `at` where its bytes fit, and else nothing was touched
-pub record PutWord (old : List ℕ) (at size w : ℕ) (new : List ℕ) (r : Bool) : Type 0 where
-  pub fits : r ≡ leb (at + size) (length old)
-  pub wrote : new ≡ cond (leb (at + size) (length old)) (sets old at (bytesOf size w)) old

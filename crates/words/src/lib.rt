@@ -5,9 +5,7 @@
 // in specs/Machine.antt; the invariant of the loop that runs it is proved once, in proofs/Between.antt.
 //
 //     first16(bytes), first32, first64     the word at the front of a slice, a part of one, or the end
-//     at16(bytes, at), at32, at64          the same at a place; past the end is the end
 //     word16(a, b), word32, word64         the number that bytes make
-//     put(out, at, word, size)             a word's bytes into a lent slice; where they do not fit nothing is touched
 //     give(rows, n, row)                   a word's row into a lent slice, after the n that are there
 //     admit(bytes, picture)                refusals 1 and 14, which come before the first word
 //     Picture, Gave                        the picture that pixels lie in; what a word did to the lent rows
@@ -15,11 +13,8 @@
 // Bit fields are written with / and % in code, and as `field` in specs/Fields.antt, whose laws hold for every position and width.
 ghost use mathlib.Core.Path.{_≡_};
 ghost use mathlib.Core.List.{[], _∷_};
-ghost use Prim.Native.Nat.{_+_, _≤_};
-ghost use lib.ListN.{length};
-ghost use lib.Seq.{sets};
 ghost use Rattle.words.specs.Machine.{gives};
-ghost use Rattle.words.specs.Words.{value, firstOf, wordsOf, nextAt, bytesOf, PutWord};
+ghost use Rattle.words.specs.Words.{value, firstOf, wordsOf};
 ghost use Rattle.words.specs.Written.{GaveAs};
 use rows::Fault;
 use rows::Row;
@@ -55,19 +50,21 @@ pub fn give(rows: &mut [u32], n: usize, row: Row) -> Gave
     Gave::Full
 }
 
-// The number that two bytes make; four; eight.
+// The number that two bytes make.
 pub fn word16(a: u8, b: u8) -> u64
     ensures { λ r. ⌜ r ≡ value (a ∷ b ∷ []) ⌝ }
 {
     a as u64 + 256 * b as u64
 }
 
+// The number that four bytes make.
 pub fn word32(a: u8, b: u8, c: u8, d: u8) -> u64
     ensures { λ r. ⌜ r ≡ value (a ∷ b ∷ c ∷ d ∷ []) ⌝ }
 {
     16777216 * d as u64 + 65536 * c as u64 + 256 * b as u64 + a as u64
 }
 
+// The number that eight bytes make.
 pub fn word64(a: u8, b: u8, c: u8, d: u8, e: u8, f: u8, g: u8, h: u8) -> u64
     ensures { λ r. ⌜ r ≡ value (a ∷ b ∷ c ∷ d ∷ e ∷ f ∷ g ∷ h ∷ []) ⌝ }
 {
@@ -122,63 +119,4 @@ pub fn first64(bytes: &[u8]) -> Next
         return Next::End;
     }
     Next::Part
-}
-
-// The word of two bytes at a place.
-pub fn at16(bytes: &[u8], at: usize) -> Next
-    ensures { λ r. ⌜ r ≡ nextAt 2 (now (bytes .entry)) at ⌝ }
-{
-    if bytes.len() < at {
-        return Next::End;
-    }
-    first16(&bytes[at..])
-}
-
-// The word of four bytes at a place.
-pub fn at32(bytes: &[u8], at: usize) -> Next
-    ensures { λ r. ⌜ r ≡ nextAt 4 (now (bytes .entry)) at ⌝ }
-{
-    if bytes.len() < at {
-        return Next::End;
-    }
-    first32(&bytes[at..])
-}
-
-// The word of eight bytes at a place.
-pub fn at64(bytes: &[u8], at: usize) -> Next
-    ensures { λ r. ⌜ r ≡ nextAt 8 (now (bytes .entry)) at ⌝ }
-{
-    if bytes.len() < at {
-        return Next::End;
-    }
-    first64(&bytes[at..])
-}
-
-// Stores the lowest `size` bytes of a word from the place `at` on.
-fn store(out: &mut [u8], at: usize, word: u64, size: usize)
-    requires { ⌜ at + size ≤ length (now out) ⌝ }
-    ensures { λ _. ⌜ now (out .exit) ≡ sets (now (out .entry)) at (bytesOf size word) ⌝ }
-{
-    let mut rest = word;
-    let mut k = 0;
-    while k < size {
-        out[at + k] = (rest % 256) as u8;
-        rest = rest / 256;
-        k += 1;
-    }
-}
-
-// Writes the lowest `size` bytes of a word from the place `at` on and answers true; where they do not fit, touches
-// nothing and answers false.
-pub fn put(out: &mut [u8], at: usize, word: u64, size: usize) -> bool
-    ensures { λ r. ⌜ PutWord (now (out .entry)) at size word (now (out .exit)) r ⌝ }
-{
-    if out.len() < size {
-        return false;
-    }
-    if out.len() - size < at {
-        return false;
-    }
-    store(out, at, word, size);
-    true
 }

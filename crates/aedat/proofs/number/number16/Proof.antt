@@ -20,7 +20,11 @@ word16-requires : tie.Need-word16-requires
 word16-requires c κs = tt
 
 cast-result : tie.Need-cast-result
-cast-result c = omega (arith, c .word16 .ensures, c .before .before .before .shared-slice-known .given (c .before .before .before .before .args .at), c .before .before .before .shared-slice-known .given (c .before .before .before .before .args .at + 1))
+cast-result c =
+    let known = c .before .before .before in
+    let at = known .before .args .at in
+    let byte = known .shared-slice-known .given in
+    omega (arith, c .word16 .ensures, byte at, byte (at + 1))
 
 returns : tie.Need-returns
 returns c = c .word16 .ensures ∙ two-bytes _ _ (c .before .before .before .before .pre)

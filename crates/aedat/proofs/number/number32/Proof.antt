@@ -32,7 +32,11 @@ word32-requires : tie.Need-word32-requires
 word32-requires c κs = tt
 
 cast-result : tie.Need-cast-result
-cast-result c = omega (arith, c .word32 .ensures, c .before .before .before .before .before .shared-slice-known .given (c .before .before .before .before .before .before .args .at), c .before .before .before .before .before .shared-slice-known .given (c .before .before .before .before .before .before .args .at + 1), c .before .before .before .before .before .shared-slice-known .given (c .before .before .before .before .before .before .args .at + 2), c .before .before .before .before .before .shared-slice-known .given (c .before .before .before .before .before .before .args .at + 3))
+cast-result c =
+    let known = c .before .before .before .before .before in
+    let at = known .before .args .at in
+    let byte = known .shared-slice-known .given in
+    omega (arith, c .word32 .ensures, byte at, byte (at + 1), byte (at + 2), byte (at + 3))
 
 returns : tie.Need-returns
 returns c = c .word32 .ensures ∙ four-bytes _ _ (c .before .before .before .before .before .before .pre)

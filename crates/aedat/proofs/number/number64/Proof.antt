@@ -5,6 +5,10 @@ use borrow.Author.Needs.{needs}
 use Rattle.aedat.proofs.number.number64.Statement.{statement}
 use Rattle.aedat.proofs.number.number64.Tie as tie
 
+-- from the number back to the begin
+abbrev atStart : tie.After-word64 → tie.Start
+atStart d = d .before .before .before .before .before .before .before .before .before .before
+
 shared-slice-read-word64 : tie.Need-shared-slice-read-word64
 shared-slice-read-word64 c = search needs
 
@@ -33,7 +37,7 @@ word64-requires : tie.Need-word64-requires
 word64-requires c κs = tt
 
 returns : tie.Need-returns
-returns c = c .word64 .ensures ∙ eight-bytes (c .before .before .before .before .before .before .before .before .before .before .args .bytes .now) (c .before .before .before .before .before .before .before .before .before .before .pre)
+returns c = c .word64 .ensures ∙ eight-bytes (atStart c .args .bytes .now) (atStart c .pre)
 
 pub number64-spec : {M : Type 1} → statement M
 number64-spec =

@@ -15,7 +15,9 @@ enum-known-header-2 : tie.Need-enum-known-header-2
 enum-known-header-2 c = c .match .keys2
 
 read-data-requires : tie.Need-read-data-requires
-read-data-requires c κs = data-within 16384 (lit< tt) (c .before .before .before .before .before .before .before .args .bytes .now) (c .before .before .before .before .read .ensures) (c .before .before .header2 .given .1)
+read-data-requires c κs =
+    let header = c .before .before .before .before in
+    data-within 16384 (lit< tt) (header .before .before .before .args .bytes .now) (header .read .ensures) (c .before .before .header2 .given .1)
 
 returns : tie.Need-returns
 returns c = reads-none _ (c .before .before .before .read .ensures) (c .before .header .given .1)
@@ -24,7 +26,9 @@ same-length : tie.Need-same-length
 same-length c = search needs
 
 returns-2 : tie.Need-returns-2
-returns-2 c = reads-on _ (c .before .before .before .before .before .before .before .read .ensures) (c .before .before .before .before .before .header2 .given .1) (c .before .before .read-data .ensures)
+returns-2 c =
+    let found = c .before .before .before .before .before in
+    reads-on _ (found .before .before .read .ensures) (found .header2 .given .1) (c .before .before .read-data .ensures)
 
 pub read-spec : {M : Type 1} → statement M
 read-spec =

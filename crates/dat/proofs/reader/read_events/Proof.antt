@@ -3,7 +3,8 @@ use Rattle.dat.proofs.Steps.{in-parts}
 use Rattle.dat.specs.Reader.{machine}
 use Rattle.dat.specs.Words.{fresh}
 use Rattle.words.proofs.Wrote.{gave-length}
-use Rattle.words.proofs.Between.{Between, between-start, between-length, between-room, found, ends-whole, ends-part, word-in, goes-on-gave, ends-gave-full, ends-gave}
+use Rattle.words.proofs.Between.{Between, between-start, between-length, between-room, found}
+use Rattle.words.proofs.Between.{ends-whole, ends-part, word-in, goes-on-gave, ends-gave-full, ends-gave}
 use Rattle.rows.specs.Row.{roomOf}
 use Rattle.words.specs.Machine.{readFrom}
 use Rattle.words.specs.Words.{nextAt}
@@ -18,7 +19,8 @@ use Rattle.dat.proofs.reader.read_events.Statement.{statement}
 use Rattle.dat.proofs.reader.read_events.Tie as tie
 
 abbrev Inv-loop : tie.InvT-loop
-Inv-loop bytes from picture rows₀ state₀ at₀ n₀ rows state at n = Between (machine picture) bytes (readFrom (machine picture) bytes fresh from (roomOf rows₀)) rows₀ 0 state at n rows
+Inv-loop bytes from picture rows₀ state₀ at₀ n₀ rows state at n =
+    Between (machine picture) bytes (readFrom (machine picture) bytes fresh from (roomOf rows₀)) rows₀ 0 state at n rows
 
 abbrev μ-loop : tie.MeasureT-loop
 μ-loop bytes from picture rows₀ state₀ at₀ n₀ rows state at n = length bytes - at
@@ -27,20 +29,27 @@ abbrev μ-loop : tie.MeasureT-loop
 abbrev Gave-place : Type 0
 Gave-place = tie.After-give Inv-loop μ-loop
 
+-- from there back to the loop, and from there to the begin
+abbrev atLoop : Gave-place → tie.At-loop Inv-loop μ-loop
+atLoop d = d .before .before .before .before .before .before .before
+
+abbrev atStart : tie.At-loop Inv-loop μ-loop → tie.Start Inv-loop μ-loop
+atStart d = d .before .before .before .before
+
 abbrev bytes : Gave-place → List ℕ
-bytes d = d .before .before .before .before .before .before .before .before .before .before .before .args .bytes .now
+bytes d = atStart (atLoop d) .args .bytes .now
 
 abbrev place : Gave-place → ℕ
-place d = d .before .before .before .before .before .before .before .loop .at
+place d = atLoop d .loop .at
 
 abbrev w : Gave-place → ℕ
 w d = d .before .before .before .next .given .0 .0
 
 word : (d : Gave-place) → Word (w d) ≡ nextAt 8 (bytes d) (place d)
-word d = found (d .before .before .before .before .before .before .before .loop .inv) (d .before .before .before .before .before .first64 .ensures) (d .before .before .before .next .given .1)
+word d = found (atLoop d .loop .inv) (d .before .before .before .before .before .first64 .ensures) (d .before .before .before .next .given .1)
 
 word-fits : (d : Gave-place) → place d + 8 ≤ length (bytes d)
-word-fits d = word-in (d .before .before .before .before .before .before .before .loop .inv) (lit< tt) (word d)
+word-fits d = word-in (atLoop d .loop .inv) (lit< tt) (word d)
 
 fresh-requires : tie.Need-fresh-requires Inv-loop μ-loop
 fresh-requires c κs = tt
@@ -94,12 +103,13 @@ enum-told-3 c = c .match2 .keys1
 same-length-3 : tie.Need-same-length-3 Inv-loop μ-loop
 same-length-3 c =
     let d = c .before .before .before .before in
-    gave-length _ (d .give .ensures) ∙ between-length (d .before .before .before .before .before .before .before .loop .inv)
+    gave-length _ (d .give .ensures) ∙ between-length (atLoop d .loop .inv)
 
 returns-3 : tie.Need-returns-3 Inv-loop μ-loop
 returns-3 c =
     let d = c .before .before .before .before in
-    ends-gave-full (d .before .before .before .before .before .before .before .loop .inv) (lit< tt) (word d) _ (in-parts _ _ _ refl) (d .give .ensures) (c .enum-told3 .given .1)
+    ends-gave-full (atLoop d .loop .inv) (lit< tt) (word d) _ (in-parts _ _ _ refl) (d .give .ensures)
+    (c .enum-told3 .given .1)
 
 enum-known-gave : tie.Need-enum-known-gave Inv-loop μ-loop
 enum-known-gave c = c .match2 .keys2
@@ -107,12 +117,12 @@ enum-known-gave c = c .match2 .keys2
 same-length-4 : tie.Need-same-length-4 Inv-loop μ-loop
 same-length-4 c =
     let d = c .before .before .before .before .before in
-    gave-length _ (d .give .ensures) ∙ between-length (d .before .before .before .before .before .before .before .loop .inv)
+    gave-length _ (d .give .ensures) ∙ between-length (atLoop d .loop .inv)
 
 returns-4 : tie.Need-returns-4 Inv-loop μ-loop
 returns-4 c =
     let d = c .before .before .before .before .before in
-    ends-gave (d .before .before .before .before .before .before .before .loop .inv) (lit< tt) (word d) _ (in-parts _ _ _ refl) (d .give .ensures) (c .before .gave .given .1)
+    ends-gave (atLoop d .loop .inv) (lit< tt) (word d) _ (in-parts _ _ _ refl) (d .give .ensures) (c .before .gave .given .1)
 
 enum-known-gave-2 : tie.Need-enum-known-gave-2 Inv-loop μ-loop
 enum-known-gave-2 c = c .match2 .keys3
@@ -120,7 +130,7 @@ enum-known-gave-2 c = c .match2 .keys3
 add-at : tie.Need-add-at Inv-loop μ-loop
 add-at c =
     let d = c .before .before .before .before .before in
-    omega (arith, word-fits d, d .before .before .before .before .before .before .before .before .before .before .before .good)
+    omega (arith, word-fits d, atStart (atLoop d) .good)
 
 event-requires : tie.Need-event-requires Inv-loop μ-loop
 event-requires c κs = tt
@@ -131,7 +141,8 @@ loop-less c = omega (arith, word-fits (c .before .before .before .before .before
 loop-again : tie.Need-loop-again Inv-loop μ-loop
 loop-again c =
     let d = c .before .before .before .before .before .before in
-    goes-on-gave (d .before .before .before .before .before .before .before .loop .inv) (lit< tt) (word d) _ (in-parts _ _ _ (c .event .ensures)) (d .give .ensures) (c .before .before .gave2 .given .1)
+    goes-on-gave (atLoop d .loop .inv) (lit< tt) (word d) _ (in-parts _ _ _ (c .event .ensures)) (d .give .ensures)
+    (c .before .before .gave2 .given .1)
 
 pub read-events-spec : {M : Type 1} → statement M
 read-events-spec =

@@ -23,7 +23,9 @@ same-length : tie.Need-same-length
 same-length c = search needs
 
 returns-2 : tie.Need-returns-2
-returns-2 c = reads-on _ (c .before .before .before .before .before .before .admit .ensures) (c .before .before .before .before .enum-told .given .1) (c .before .before .read-words .ensures)
+returns-2 c =
+    let told = c .before .before .before .before in
+    reads-on _ (told .before .before .admit .ensures) (told .enum-told .given .1) (c .before .before .read-words .ensures)
 
 pub read-spec : {M : Type 1} → statement M
 read-spec =

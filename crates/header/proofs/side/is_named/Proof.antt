@@ -30,7 +30,9 @@ shared-slice-read-if2 : tie.Need-shared-slice-read-if2 Inv-loop μ-loop
 shared-slice-read-if2 c = omega (arith, c .before .before .before .loop-test .taken)
 
 returns-2 : tie.Need-returns-2 Inv-loop μ-loop
-returns-2 c = matching-other (c .before .before .before .before .before .loop .inv) (c .before .before .before .before .loop-test .taken) (λ e. c .if2 .taken (c .before .before .lower .ensures ∙ e))
+returns-2 c =
+    let next = c .before .before .before .before in
+    matching-other (next .before .loop .inv) (next .loop-test .taken) (λ e. c .if2 .taken (c .before .before .lower .ensures ∙ e))
 
 add-i : tie.Need-add-i Inv-loop μ-loop
 add-i c = omega arith
@@ -39,7 +41,9 @@ loop-less : tie.Need-loop-less Inv-loop μ-loop
 loop-less c = omega arith
 
 loop-again : tie.Need-loop-again Inv-loop μ-loop
-loop-again c = matching-next (c .before .before .before .before .before .loop .inv) (c .before .before .before .before .loop-test .taken) (sym (c .before .before .lower .ensures) ∙ c .if2 .left)
+loop-again c =
+    let next = c .before .before .before .before in
+    matching-next (next .before .loop .inv) (next .loop-test .taken) (sym (c .before .before .lower .ensures) ∙ c .if2 .left)
 
 returns-3 : tie.Need-returns-3 Inv-loop μ-loop
 returns-3 c = matching-all (c .before .loop .inv) (c .loop-test .left)

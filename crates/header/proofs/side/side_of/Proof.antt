@@ -23,11 +23,15 @@ is-named-requires-2 c κs = tt
 
 returns-2 : tie.Need-returns-2
 unfolding sideOf
-returns-2 c = simp (sym (c .before .before .before .before .is-named .ensures) ∙ c .before .before .before .if1 .left, sym (c .before .is-named2 .ensures) ∙ c .if2 .taken)
+returns-2 c =
+    let other = c .before .before .before in
+    simp (sym (other .before .is-named .ensures) ∙ other .if1 .left, sym (c .before .is-named2 .ensures) ∙ c .if2 .taken)
 
 returns-3 : tie.Need-returns-3
 unfolding sideOf
-returns-3 c = simp (sym (c .before .before .before .before .is-named .ensures) ∙ c .before .before .before .if1 .left, sym (c .before .is-named2 .ensures) ∙ c .if2 .left)
+returns-3 c =
+    let other = c .before .before .before in
+    simp (sym (other .before .is-named .ensures) ∙ other .if1 .left, sym (c .before .is-named2 .ensures) ∙ c .if2 .left)
 
 pub side-of-spec : {M : Type 1} → statement M
 side-of-spec =

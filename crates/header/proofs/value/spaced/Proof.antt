@@ -28,7 +28,10 @@ number-of-requires c κs = tt
 
 returns-2 : tie.Need-returns-2
 unfolding spaced
-returns-2 c = simp (eq-eqb _ _ (c .before .before .if2 .taken)) (c .number-of .ensures ∙ ap numberOf (part-rest 1 (c .before .before .before .before .before .before .args .text .now)))
+returns-2 c =
+    let one = c .before .before in
+    let text = one .before .before .before .before .args .text .now in
+    simp (eq-eqb _ _ (one .if2 .taken)) (c .number-of .ensures ∙ ap numberOf (part-rest 1 text))
 
 returns-3 : tie.Need-returns-3
 unfolding spaced

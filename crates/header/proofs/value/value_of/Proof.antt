@@ -28,7 +28,10 @@ spaced-requires c κs = tt
 
 returns-2 : tie.Need-returns-2
 unfolding valueOf
-returns-2 c = simp (eq-eqb _ _ (c .before .before .if2 .taken)) (c .spaced .ensures ∙ ap spaced (part-rest 1 (c .before .before .before .before .before .before .args .text .now)))
+returns-2 c =
+    let one = c .before .before in
+    let text = one .before .before .before .before .args .text .now in
+    simp (eq-eqb _ _ (one .if2 .taken)) (c .spaced .ensures ∙ ap spaced (part-rest 1 text))
 
 spaced-requires-2 : tie.Need-spaced-requires-2
 spaced-requires-2 c κs = tt

@@ -48,7 +48,10 @@ enum-known-reading-2 : tie.Need-enum-known-reading-2
 enum-known-reading-2 c = c .match2 .keys2
 
 add-t23 : tie.Need-add-t23
-add-t23 c = omega (arith, place-within _ _ _ (file (c .before .before .before .before .before .before .before .before)) _ _ (there (c .before .before .before .before .before .before .before .before)) (c .before .before .before .before .before .read-words .ensures) (c .before .reading2 .given .1))
+add-t23 c =
+    let words = c .before .before .before .before .before in
+    let good = words .before .before .before in
+    omega (arith, place-within _ _ _ (file good) _ _ (there good) (words .read-words .ensures) (c .before .reading2 .given .1))
 
 returns : tie.Need-returns
 returns c = reads-none _ (c .before .before .before .read .ensures) (c .before .header .given .1)
@@ -58,18 +61,20 @@ same-length c = search needs
 
 returns-2 : tie.Need-returns-2
 returns-2 c =
-    let good = c .before .before .before .before .before .before .before .before in
+    let words = c .before .before .before .before .before in
+    let good = words .before .before .before in
     reads-on _ (good .before .before .before .read .ensures) (good .before .header2 .given .1)
-    (reads-words _ _ _ _ _ _ (there good) (c .before .before .before .before .before .read-words .ensures) (c .before .reading .given .1))
+    (reads-words _ _ _ _ _ _ (there good) (words .read-words .ensures) (c .before .reading .given .1))
 
 same-length-2 : tie.Need-same-length-2
 same-length-2 c = search needs
 
 returns-3 : tie.Need-returns-3
 returns-3 c =
-    let good = c .before .before .before .before .before .before .before .before in
+    let words = c .before .before .before .before .before in
+    let good = words .before .before .before in
     reads-on _ (good .before .before .before .read .ensures) (good .before .header2 .given .1)
-    (reads-words _ _ _ _ _ _ (there good) (c .before .before .before .before .before .read-words .ensures) (c .before .reading2 .given .1))
+    (reads-words _ _ _ _ _ _ (there good) (words .read-words .ensures) (c .before .reading2 .given .1))
 
 pub read-spec : {M : Type 1} → statement M
 read-spec =

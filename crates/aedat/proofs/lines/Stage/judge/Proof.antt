@@ -58,7 +58,11 @@ returns-3 c = rw (c .before .before .before .enum-told2 .given .1, sym (c .befor
 
 returns-4 : tie.Need-returns-4
 unfolding textStep
-returns-4 c = rw (c .before .before .before .before .before .enum-told3 .given .1, sym (c .before .before .before .is-same3 .ensures) ∙ c .before .before .if1 .left, sym (c .before .starts-line .ensures)) (c .good-if3 .ensures)
+returns-4 c =
+    let further = c .before .before in
+    let told = further .before .before .before in
+    rw (told .enum-told3 .given .1, sym (further .before .is-same3 .ensures) ∙ further .if1 .left, sym (c .before .starts-line .ensures))
+    (c .good-if3 .ensures)
 
 pub judge-spec : {M : Type 1} → statement M
 judge-spec =

@@ -39,12 +39,17 @@ same-length c = search needs
 returns-2 : tie.Need-returns-2
 unfolding eventOf
 returns-2 c =
-    let d = c .before .before .before .before .before in
-    simp (le-ltb _ _ (d .before .before .before .if1 .left), sym (d .before .before .holds .ensures) ∙ d .before .if2 .taken, le-leb _ _ (d .if3 .taken)) (gave-row (c .before .before .before .pixel .ensures) (c .before .before .give .ensures))
+    let right = c .before .before .before .before .before in
+    let inside = right .before in
+    simp (le-ltb _ _ (inside .before .before .if1 .left), sym (inside .before .holds .ensures) ∙ inside .if2 .taken, le-leb _ _ (right .if3 .taken))
+    (gave-row (c .before .before .before .pixel .ensures) (c .before .before .give .ensures))
 
 returns-3 : tie.Need-returns-3
 unfolding eventOf
-returns-3 c = simp (le-ltb _ _ (c .before .before .before .if1 .left), sym (c .before .before .holds .ensures) ∙ c .before .if2 .taken, lt-leb _ _ (c .if3 .left)) (gave-refused _ _ _)
+returns-3 c =
+    let inside = c .before in
+    simp (le-ltb _ _ (inside .before .before .if1 .left), sym (inside .before .holds .ensures) ∙ inside .if2 .taken, lt-leb _ _ (c .if3 .left))
+    (gave-refused _ _ _)
 
 returns-4 : tie.Need-returns-4
 unfolding eventOf

@@ -12,6 +12,20 @@ fn the_table() {
     assert_eq!(table.text().matches("    what to do").count(), 16, "one for each number, and another where rows are written, for 2 and 5");
 }
 
+/// README.md has the same numbers with the same words.
+#[test]
+fn the_table_of_the_readme() {
+    let table = run(&folder("readme"), &["refusals"]).good();
+    let lines = table.text().lines().filter(|line| !line.starts_with("    "));
+    let rows: Vec<_> = lines.filter_map(|line| line.trim().split_once("  ")).map(|(number, found)| format!("| {number} | {found} |")).collect();
+    assert_eq!(rows.len(), 14);
+    for row in rows {
+        assert!(README.contains(&row), "README.md has no row {row}");
+    }
+}
+
+const README: &str = include_str!("../../../README.md");
+
 /// A recording that is refused.
 struct Case {
     format: &'static str,

@@ -7,10 +7,10 @@ fn compare(row: &[u32]) -> u64 {
     let (refusal, kind, time, data, readings) = event_numbers(row);
     let expected = second::rows::event(row);
     assert_eq!((refusal, kind, time, data), (expected.0, expected.1, expected.2, expected.3), "row {row:?}");
-    for i in 0..7 {
-        match expected.4[i] {
-            Some(bits) => assert_eq!(readings[i], bits, "reading {i} of row {row:?}"),
-            None => assert!(f32::from_bits(readings[i]).is_nan(), "reading {i} of row {row:?}"),
+    for (i, (reading, expected)) in readings.into_iter().zip(expected.4).enumerate() {
+        match expected {
+            Some(bits) => assert_eq!(reading, bits, "reading {i} of row {row:?}"),
+            None => assert!(f32::from_bits(reading).is_nan(), "reading {i} of row {row:?}"),
         }
     }
     refusal
@@ -120,7 +120,7 @@ fn rows_at_random() {
         let refusal = compare(&row);
         reached[kind as usize][usize::from(refusal != 0)] += 1;
     }
-    for kind in 1..=6 {
-        assert!(reached[kind][0] > 10_000 && reached[kind][1] > 5_000, "kind {kind}: {:?} good and bad", reached[kind]);
+    for (kind, [good, bad]) in reached.into_iter().enumerate().skip(1).take(6) {
+        assert!(good > 10_000 && bad > 5_000, "kind {kind}: {good} good and {bad} bad");
     }
 }

@@ -170,8 +170,11 @@ fn long_headers(comparer: &mut Comparer) {
     }
 }
 
+/// Inputs of one sort, all of which are compared.
+type Family = fn(&mut Comparer);
+
 fn compare_all(reader: Reader) {
-    let families: [(&str, fn(&mut Comparer)); 8] = [
+    let families: [(&str, Family); 8] = [
         ("cut headers", cut_headers),
         ("changed bytes", changed_bytes),
         ("two changed bytes", two_changed_bytes),

@@ -17,29 +17,29 @@ fn next(name: &[u8], next: Next) {
     }
 }
 
-// What stands at the front of the bytes from a place on.
-fn first16(name: &[u8], bytes: &[u8]) {
-    next(name, words::first16(bytes));
-}
-
-fn first32(name: &[u8], bytes: &[u8]) {
-    next(name, words::first32(bytes));
-}
-
-fn first64(name: &[u8], bytes: &[u8]) {
-    next(name, words::first64(bytes));
-}
-
+// What stands at the front of nine bytes, from a place on.
 pub(crate) fn reads() {
-    first16(b"16 at 0:", b"\x01\x80\x02\x60\x03\x00\x05\x28\xff");
-    first16(b"16 at 7:", b"\x28\xff");
-    first16(b"16 at 8:", b"\xff");
-    first16(b"16 at 9:", b"");
-    first32(b"32 at 0:", b"\x01\x80\x02\x60\x03\x00\x05\x28\xff");
-    first32(b"32 at 5:", b"\x00\x05\x28\xff");
-    first32(b"32 at 6:", b"\x05\x28\xff");
-    first32(b"32 at 9:", b"");
-    first64(b"64 at 0:", b"\x01\x80\x02\x60\x03\x00\x05\x28\xff");
-    first64(b"64 at 1:", b"\x80\x02\x60\x03\x00\x05\x28\xff");
-    first64(b"64 at 2:", b"\x02\x60\x03\x00\x05\x28\xff");
+    next(
+        b"16 at 0:",
+        words::first16(b"\x01\x80\x02\x60\x03\x00\x05\x28\xff"),
+    );
+    next(b"16 at 7:", words::first16(b"\x28\xff"));
+    next(b"16 at 8:", words::first16(b"\xff"));
+    next(b"16 at 9:", words::first16(b""));
+    next(
+        b"32 at 0:",
+        words::first32(b"\x01\x80\x02\x60\x03\x00\x05\x28\xff"),
+    );
+    next(b"32 at 5:", words::first32(b"\x00\x05\x28\xff"));
+    next(b"32 at 6:", words::first32(b"\x05\x28\xff"));
+    next(b"32 at 9:", words::first32(b""));
+    next(
+        b"64 at 0:",
+        words::first64(b"\x01\x80\x02\x60\x03\x00\x05\x28\xff"),
+    );
+    next(
+        b"64 at 1:",
+        words::first64(b"\x80\x02\x60\x03\x00\x05\x28\xff"),
+    );
+    next(b"64 at 2:", words::first64(b"\x02\x60\x03\x00\x05\x28\xff"));
 }

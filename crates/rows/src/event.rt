@@ -2,7 +2,7 @@
 ghost use mathlib.Core.Path.{_≡_};
 ghost use mathlib.Core.Bool.{true};
 ghost use Rattle.rows.specs.Rules.{goodAs};
-ghost use Rattle.rows.specs.Event.{countsEvent, singlesEvent, eventAs, eventOf, eventTime, readingsOf, refusedNumbers, rowNumbers, eventNumbers};
+ghost use Rattle.rows.specs.Event.{countsEvent, singlesEvent, eventAs, eventOf, readingsOf, refusedNumbers, rowNumbers, eventNumbers};
 use crate::fault::Fault;
 use crate::readings::acceleration;
 use crate::readings::rotation;
@@ -171,56 +171,6 @@ pub fn event_of(row: Row) -> Conversion
 }
 
 impl Event {
-    // The time in microseconds.
-    pub fn time(self) -> u64
-        ensures { λ r. ⌜ r ≡ eventTime self ⌝ }
-    {
-        match self {
-            Event::Pixel {
-                time,
-                x: _,
-                y: _,
-                polarity: _,
-            } => time,
-            Event::Trigger {
-                time,
-                channel: _,
-                edge: _,
-            } => time,
-            Event::ImuCounts {
-                time,
-                ax: _,
-                ay: _,
-                az: _,
-                rx: _,
-                ry: _,
-                rz: _,
-            } => time,
-            Event::ImuSingles {
-                time,
-                ax: _,
-                ay: _,
-                az: _,
-                rx: _,
-                ry: _,
-                rz: _,
-                temperature: _,
-                patterns: _,
-            } => time,
-            Event::UsbPacket {
-                time,
-                flag: _,
-                count: _,
-                system: _,
-            } => time,
-            Event::Special {
-                time,
-                code: _,
-                content: _,
-            } => time,
-        }
-    }
-
     // The seven readings, +0 where the kind has none.
     pub fn readings(self) -> [f32; 7]
         ensures { λ r. ⌜ r ≡ readingsOf self ⌝ }

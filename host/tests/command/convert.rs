@@ -4,6 +4,7 @@ use super::run::{files, folder, run, run_after, run_fed, run_on};
 use fryskelom::samples::{aedat, dat, evt2, evt3, Numbers};
 use std::fs;
 use std::os::unix::fs::symlink;
+use std::path::{Path, PathBuf};
 use std::process::Command;
 
 #[test]
@@ -123,15 +124,26 @@ fn refused() -> [(Vec<u8>, &'static str, &'static str, String); 5] {
     ]
 }
 
+/// A folder with a file that was there before.
+fn folder_with_old(name: &str) -> PathBuf {
+    let folder = folder(name);
+    fs::write(folder.join("old"), "as it was").expect("a file");
+    folder
+}
+
+/// That file is as it was, and beside it is the recording alone.
+fn assert_left(folder: &Path) {
+    assert_eq!(fs::read(folder.join("old")).expect("it is there"), b"as it was");
+    assert_eq!(files(folder), ["old", "recording"]);
+}
+
 #[test]
 fn refusals_write_nothing() {
-    let folder = folder("convert-refused");
+    let folder = folder_with_old("convert-refused");
     for (bytes, format, words, message) in refused() {
         for out in ["new", "old", "-"] {
-            fs::write(folder.join("old"), "as it was").expect("a file");
             run_on(&folder, &bytes, &["convert", "recording", out, "--format", format, "--to", words]).failed(&message);
-            assert_eq!(fs::read(folder.join("old")).expect("it is there"), b"as it was");
-            assert_eq!(files(&folder), ["old", "recording"]);
+            assert_left(&folder);
         }
     }
 }
@@ -159,15 +171,13 @@ fn files_that_cannot_be_written() {
 
 #[test]
 fn a_disk_that_is_full() {
-    let folder = folder("convert-full");
+    let folder = folder_with_old("convert-full");
     fs::write(folder.join("recording"), dat::recording((640, 480), 10_000, &mut Numbers::new(0x4f8a_66d1_93b0_2e7c))).expect("a file");
-    fs::write(folder.join("old"), "as it was").expect("a file");
     for out in ["new", "old"] {
         // a file can have some blocks only, and the process goes on where it has more
         let run = run_after(&folder, "trap '' XFSZ; ulimit -f 8", &["convert", "recording", out, "--format", "dat", "--to", "evt3"]);
         run.failed(&format!("cannot write {out}: File too large (os error 27)\n"));
-        assert_eq!(fs::read(folder.join("old")).expect("it is there"), b"as it was");
-        assert_eq!(files(&folder), ["old", "recording"]);
+        assert_left(&folder);
     }
 }
 

@@ -1,5 +1,6 @@
 //! The EVT3 reader of the library, and the hand-written one of the benchmark, against the second implementation: every word after
-//! every sort of state, every vector at the edge of a picture, and recordings that are made up, damaged, cut and short of room.
+//! every sort of state, every high part that falls by about as much as a wrap does, every vector at the edge of a picture, and
+//! recordings that are made up, damaged, cut and short of room.
 #[path = "common/readers.rs"]
 mod readers;
 
@@ -23,6 +24,45 @@ struct Reached {
     edges: [usize; 2],
     /// Rows after the clock has wrapped.
     wrapped: usize,
+    clock: Clock,
+}
+
+/// What the high parts of the inputs did.
+#[derive(Default)]
+struct Clock {
+    wraps: usize,
+    wraps_by_2048: usize,
+    wraps_too_many: usize,
+    drops: usize,
+    drops_by_2047: usize,
+    /// Drops that come after a wrap.
+    later_drops: usize,
+}
+
+impl Clock {
+    /// Counts what each high part did, and the last one where the reading was refused 5.
+    fn count(&mut self, high_parts: &[u16], refused: bool) {
+        let falls: Vec<u16> = high_parts.windows(2).map(|pair| pair[0].saturating_sub(pair[1])).filter(|&fall| fall > 0).collect();
+        let (&last, before) = match falls.split_last() {
+            Some(split) if refused => split,
+            _ => (&0, &falls[..]),
+        };
+        self.wraps += before.len();
+        self.wraps_by_2048 += before.iter().filter(|&&fall| fall == 2_048).count();
+        self.wraps_too_many += usize::from(last >= 2_048);
+        self.drops += usize::from((1..2_048).contains(&last));
+        self.drops_by_2047 += usize::from(last == 2_047);
+        self.later_drops += usize::from((1..2_048).contains(&last) && !before.is_empty());
+    }
+
+    fn check(&self) {
+        often("wraps of the clock, at least", 1, self.wraps);
+        often("wraps by a fall of", 2_048, self.wraps_by_2048);
+        often("wraps past", 1_023, self.wraps_too_many);
+        often("falls that are no wrap, at least by", 1, self.drops);
+        often("falls by", 2_047, self.drops_by_2047);
+        often("falls that are no wrap after wraps, at least", 1, self.later_drops);
+    }
 }
 
 type Comparer = readers::Comparer<Reached>;
@@ -44,7 +84,12 @@ impl readers::Reached for Reached {
         recording(scene, picture, start, events, numbers)
     }
 
-    fn count(&mut self, _: &[u8], reading: &Reading, kind: impl Fn(usize) -> usize) {
+    fn count(&mut self, bytes: &[u8], reading: &Reading, kind: impl Fn(usize) -> usize) {
+        let refused = reading.refusal == 5;
+        let read = reading.given.len() + usize::from(refused);
+        let words = bytes.chunks_exact(2).take(read).map(|word| u16::from_le_bytes([word[0], word[1]]));
+        let high_parts: Vec<u16> = words.filter(|word| word >> 12 == 8).map(|word| word & 0xfff).collect();
+        self.clock.count(&high_parts, refused);
         for (index, &given) in reading.given.iter().enumerate() {
             self.words[kind(index)] += 1;
             if let 4 | 5 = kind(index) {
@@ -68,6 +113,7 @@ impl readers::Reached for Reached {
             counts.iter().enumerate().for_each(|(which, &count)| often(what, which, count));
         }
         often("rows after wraps, at least", 1, self.wrapped);
+        self.clock.check();
     }
 }
 
@@ -134,30 +180,47 @@ fn likely_word((width, height): Picture, numbers: &mut Numbers) -> u16 {
         0 => numbers.below(height),
         2 | 3 => numbers.below(width) | numbers.below(2) << 11,
         4 | 5 if numbers.once_in(2) => numbers.any() & numbers.any() & numbers.any(),
-        // a few high parts, so that some are equal and some fall
-        8 => numbers.one_of(&[0, 1, 2, 4_094, 4_095]),
+        // a few high parts, so that some are equal, some wrap and some fall by less
+        8 => numbers.one_of(&[0, 0, 0, 0, 1, 2_047, 2_048, 4_094, 4_095, 4_095, 4_095, 4_095]),
         _ => numbers.any(),
     };
     kind << 12 | data as u16 & 0xfff
 }
 
-/// Clocks that wrap about 1,023 times, which is the most that is read.
+/// After every high part those that lie about as far below it as a drop or a wrap begins, and as far above it; each with a trigger.
+fn high_parts(comparer: &mut Comparer) {
+    const STEPS: [i32; 14] = [-4_095, -2_050, -2_049, -2_048, -2_047, -2_046, -2, -1, 0, 1, 2, 2_047, 2_048, 4_095];
+    for first in 0..4_096 {
+        for second in STEPS.map(|step| first + step).into_iter().filter(|high| (0..4_096).contains(high)) {
+            for third in STEPS.map(|step| second + step).into_iter().filter(|high| (0..4_096).contains(high)) {
+                let under = |high: i32, low: u16| [0x8000 | high as u16, 0x6000 | low, 0xa000];
+                comparer.compare(&bytes_of(&[under(first, 0x123), under(second, 0x456), under(third, 0x789)].concat()), LARGEST);
+            }
+        }
+    }
+}
+
+/// Clocks that wrap about 1,023 times, which is the most that is read, and may go back at their end.
 fn long_clocks(comparer: &mut Comparer) {
     let mut numbers = Numbers::new(0x1f3d_85b1_9c0e_6a55);
-    for _ in 0..3_000 {
-        let mut words = vec![];
-        for _ in 0..2_040 + numbers.below(20) {
-            words.push(0x8000 | numbers.below(4_096) as u16);
+    for _ in 0..8_000 {
+        let (mut words, mut high) = (vec![], 0);
+        for _ in 0..2_030 + numbers.below(30) {
+            // a rise to where a wrap can follow, and a wrap
+            high = if high < 2_048 { 2_048 + numbers.below(2_048) } else { numbers.below(high - 2_047) };
+            words.push(0x8000 | high as u16);
             if numbers.once_in(64) {
                 words.extend([0x6000 | numbers.below(4_096) as u16, 0xa000 | numbers.below(4_096) as u16]);
             }
         }
+        words.push(0x8000 | numbers.below(4_096) as u16);
         comparer.compare(&bytes_of(&words), LARGEST);
     }
 }
 
-const FAMILIES: [Family<Reached>; 5] = [
+const FAMILIES: [Family<Reached>; 6] = [
     ("every word", every_word),
+    ("high parts", high_parts),
     ("vectors at the edge", vectors_at_the_edge),
     ("any words", any_words),
     ("likely words", likely_words),

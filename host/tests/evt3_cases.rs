@@ -41,16 +41,66 @@ const CASES: &[Case] = &[
     Case { name: "TIME_LOW before TIME_HIGH", words: &[0x6002, 0x0003, 0x2005, 0xa001, 0x8001, 0x2005, 0xa001], ..PLAIN },
     Case { name: "time steps back", words: &[0x8001, 0x6005, 0xa001, 0x6002, 0xa000], rows: &[trigger(4_101, 0, 1), trigger(4_098, 0, 0)], ..PLAIN },
     Case { name: "a wrap", words: &[0x8fff, 0x8000, 0x6000, 0x0003, 0x2005], rows: &[pixel(16_777_216, 5, 3, 0)], ..PLAIN },
-    Case { name: "a small drop is a wrap", words: &[0x8005, 0x8004, 0x6000, 0xa001], rows: &[trigger(16_793_600, 0, 1)], ..PLAIN },
-    Case { name: "an equal high part is none", words: &[0x8fff, 0x8fff, 0x6000, 0xa001], rows: &[trigger(16_773_120, 0, 1)], ..PLAIN },
+    Case {
+        name: "813, then 812",
+        words: &[0x832d, 0x6000, 0xa001, 0x832c, 0x6000, 0xa001],
+        rows: &[trigger(3_330_048, 0, 1)],
+        fault: Some((5, 6)),
+        ..PLAIN
+    },
+    Case {
+        name: "a drop of 2,047",
+        words: &[0x8fff, 0x6000, 0xa001, 0x8800, 0x6000, 0xa001],
+        rows: &[trigger(16_773_120, 0, 1)],
+        fault: Some((5, 6)),
+        ..PLAIN
+    },
+    Case {
+        name: "a drop of 2,048",
+        words: &[0x8fff, 0x6000, 0xa001, 0x87ff, 0x6000, 0xa001],
+        rows: &[trigger(16_773_120, 0, 1), trigger(25_161_728, 0, 1)],
+        ..PLAIN
+    },
+    Case {
+        name: "a drop of 2,049",
+        words: &[0x8fff, 0x6000, 0xa001, 0x87fe, 0x6000, 0xa001],
+        rows: &[trigger(16_773_120, 0, 1), trigger(25_157_632, 0, 1)],
+        ..PLAIN
+    },
+    Case { name: "a drop of 2,047 to 1", words: &[0x8800, 0x8001], fault: Some((5, 2)), ..PLAIN },
+    Case { name: "a drop of 2,048 to 0", words: &[0x8800, 0x8000, 0x6000, 0xa001], rows: &[trigger(16_777_216, 0, 1)], ..PLAIN },
+    Case { name: "a small drop before any time and half a word", words: &[0x8005, 0x8004], part: &[0x05], fault: Some((5, 2)), ..PLAIN },
+    Case { name: "an equal high part is no drop", words: &[0x8fff, 0x8fff, 0x6000, 0xa001], rows: &[trigger(16_773_120, 0, 1)], ..PLAIN },
+    Case { name: "nor is the first one", words: &[0x6fff, 0x8000, 0x6000, 0xa001], rows: &[trigger(0, 0, 1)], ..PLAIN },
+    Case {
+        name: "nor is any rise",
+        words: &[0x8000, 0x6000, 0xa001, 0x8fff, 0x6000, 0xa001],
+        rows: &[trigger(0, 0, 1), trigger(16_773_120, 0, 1)],
+        ..PLAIN
+    },
     Case { name: "wraps past 2^32", before: ALL_WRAPS, words: &[0x6000, 0x0003, 0x2005], rows: &[pixel(17_163_091_968, 5, 3, 0)], ..PLAIN },
     Case { name: "the last time", before: ALL_WRAPS, words: &[0x8fff, 0x6fff, 0xa001], rows: &[trigger(17_179_869_183, 0, 1)], ..PLAIN },
     Case {
         name: "a wrap too many",
         before: ALL_WRAPS,
+        words: &[0x8fff, 0x6fff, 0xa001, 0x87ff],
+        rows: &[trigger(17_179_869_183, 0, 1)],
+        fault: Some((5, 4_098)),
+        ..PLAIN
+    },
+    Case {
+        name: "a small drop after all wraps",
+        before: ALL_WRAPS,
         words: &[0x8fff, 0x6fff, 0xa001, 0x8ffe],
         rows: &[trigger(17_179_869_183, 0, 1)],
         fault: Some((5, 4_098)),
+        ..PLAIN
+    },
+    Case {
+        name: "an equal high part after all wraps",
+        before: ALL_WRAPS,
+        words: &[0x8000, 0x6001, 0xa001],
+        rows: &[trigger(17_163_091_969, 0, 1)],
         ..PLAIN
     },
     // vectors and their base

@@ -185,7 +185,7 @@ const EVT3_CASES: &[Case] = &[
 /// The last of 1,024 wraps, which is one too many, 21 bytes after where it would be without header.
 #[test]
 fn a_wrap_too_many() {
-    let bytes = [HEADER[0], &evt3::bytes_of(evt3::ALL_WRAPS), &h(0x8fff), &h(0x8ffe)].concat();
+    let bytes = [HEADER[0], &evt3::bytes_of(evt3::ALL_WRAPS), &h(0x8fff), &h(0x8000)].concat();
     let mut rows = [7; 10];
     let fault = read_raw_evt3(&bytes, &mut rows).expect_err("a refusal");
     assert_eq!((fault.refusal.0, fault.rows, fault.place, rows), (5, 0, 4_115, [7; 10]));

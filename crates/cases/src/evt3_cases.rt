@@ -68,6 +68,46 @@ pub(crate) fn reads() {
     read(b"no picture:", &[0, 16], 2049);
 }
 
+// What a high part is after another. Each case has a trigger A601 under the first one, and under the second one.
+pub(crate) fn high_parts() {
+    // 832D, 832C
+    read(
+        b"813, then 812:",
+        &[45, 131, 0, 96, 1, 166, 44, 131, 0, 96, 1, 166],
+        2048,
+    );
+    // 832D, 832D
+    read(
+        b"813 again:",
+        &[45, 131, 0, 96, 1, 166, 45, 131, 0, 96, 1, 166],
+        2048,
+    );
+    // 8FFF, 8000
+    read(
+        b"4,095, then 0:",
+        &[255, 143, 0, 96, 1, 166, 0, 128, 0, 96, 1, 166],
+        2048,
+    );
+    // 8FFF, 8800
+    read(
+        b"a drop of 2,047:",
+        &[255, 143, 0, 96, 1, 166, 0, 136, 0, 96, 1, 166],
+        2048,
+    );
+    // 8FFF, 87FF
+    read(
+        b"a drop of 2,048:",
+        &[255, 143, 0, 96, 1, 166, 255, 135, 0, 96, 1, 166],
+        2048,
+    );
+    // 8FFF, 87FE
+    read(
+        b"a drop of 2,049:",
+        &[255, 143, 0, 96, 1, 166, 254, 135, 0, 96, 1, 166],
+        2048,
+    );
+}
+
 // A buffer of 16 bytes.
 fn write(name: &[u8], list: &[u32]) {
     let mut out = [9u8; 16];

@@ -25,6 +25,7 @@ fn main() {
     row_cases::judgements();
     word_cases::reads();
     evt3_cases::reads();
+    evt3_cases::high_parts();
     evt2_cases::reads();
     evt2_cases::writes();
     evt3_cases::writes();

@@ -1,9 +1,8 @@
 // What a reader knows between words, and what each kind of word does with it.
 ghost use mathlib.Core.Path.{_≡_};
 ghost use Prim.Native.Nat.{_≤_, _%_, _/_};
-ghost use lib.Dec.{leb};
 ghost use Rattle.evt3.specs.State.{fresh, withHigh, withY, withBase, moved};
-ghost use Rattle.evt3.specs.Words.{wrapsAt, withLow};
+ghost use Rattle.evt3.specs.Words.{dropTo, isWrap, wrapsAt, goesBack, badHigh, withLow};
 
 // Which parts of the state are known.
 pub struct Known {
@@ -48,24 +47,49 @@ impl State {
         }
     }
 
+    // How far a high part lies below the known one.
+    fn drop_to(self, high: u16) -> u16
+        ensures { λ r. ⌜ r ≡ dropTo self high ⌝ }
+    {
+        if self.known.high {
+            if high < self.high {
+                return self.high - high;
+            }
+        }
+        0
+    }
+
+    // Whether a high part is a wrap of the clock.
+    fn is_wrap(self, high: u16) -> bool
+        ensures { λ r. ⌜ r ≡ isWrap self high ⌝ }
+    {
+        2048 <= self.drop_to(high)
+    }
+
     // The wrap count that a high part leads to.
     fn wraps_at(self, high: u16) -> u32
         ensures { λ r. ⌜ r ≡ wrapsAt self high ⌝ }
     {
         let wraps = self.wraps as u32;
-        if self.known.high {
-            if high < self.high {
-                return wraps + 1;
-            }
+        if self.is_wrap(high) {
+            return wraps + 1;
         }
         wraps
     }
 
-    // Whether EVT_TIME_HIGH would come to the wrap count 1,024.
-    pub(crate) fn past_limit(self, w: u64) -> bool
-        ensures { λ r. ⌜ r ≡ leb 1024 (wrapsAt self (w % 4096)) ⌝ }
+    // Whether a high part takes the clock back.
+    fn goes_back(self, high: u16) -> bool
+        ensures { λ r. ⌜ r ≡ goesBack self high ⌝ }
     {
-        1024 <= self.wraps_at((w % 4096) as u16)
+        (0 < self.drop_to(high)) & !self.is_wrap(high)
+    }
+
+    // Whether EVT_TIME_HIGH is refused: the clock goes back, or would come to the wrap count 1,024.
+    pub(crate) fn bad_high(self, w: u64) -> bool
+        ensures { λ r. ⌜ r ≡ badHigh self (w % 4096) ⌝ }
+    {
+        let high = (w % 4096) as u16;
+        self.goes_back(high) | (1024 <= self.wraps_at(high))
     }
 
     // EVT_TIME_HIGH: the high part, and not the time.

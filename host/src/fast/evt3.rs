@@ -7,6 +7,9 @@ const SLAVE: Refusal = Refusal(7);
 
 const MOST_WRAPS: u32 = 1_023;
 
+/// A drop of the high part that is a wrap; a smaller one is refused.
+const WRAP: u32 = 2_048;
+
 /// Does what `fryskelom::read_evt3` does.
 pub fn read(bytes: &[u8], width: u32, height: u32, rows: &mut [u32]) -> Result<usize, Fault> {
     admit(bytes, width, height)?;
@@ -79,8 +82,8 @@ impl Reader<'_> {
 
     #[inline(always)]
     fn time_high(&mut self, high: u32) -> Result<(), Refusal> {
-        if self.high.is_some_and(|previous| high < previous) {
-            if self.wraps == MOST_WRAPS {
+        if let Some(drop @ 1..) = self.high.map(|previous| previous.saturating_sub(high)) {
+            if drop < WRAP || self.wraps == MOST_WRAPS {
                 return Err(TIME);
             }
             self.wraps += 1;

@@ -16,6 +16,9 @@ const RESERVED: [u32; 5] = [1, 9, 11, 12, 13];
 
 const MOST_WRAPS: u64 = 1_023;
 
+/// The clock has wrapped where the high part drops by this much or more; where it drops by less it goes back.
+const WRAP: u64 = 2_048;
+
 /// What the words so far have told. A fresh reader knows nothing.
 #[derive(Clone, Copy, Default)]
 struct State {
@@ -78,7 +81,7 @@ pub fn read(bytes: &[u8], width: u32, height: u32, room: usize) -> Reading {
         };
         let word = Word::of_bytes(low, high);
         let (rows, next) = (rows_of(&state, word), state_after(&state, word));
-        let refusal = refusal_of(word, &next, &rows, width, height, room - reading.rows.len());
+        let refusal = refusal_of(word, bad_time(&state, word, &next), &rows, width, height, room - reading.rows.len());
         if refusal != 0 {
             return reading.refused(refusal, 2 * index);
         }
@@ -113,7 +116,7 @@ fn state_after(state: &State, word: Word) -> State {
         // the base stops one past the last column
         VECT_12 | VECT_8 => next.base = state.base.map(|base| Base { x: (base.x + word.columns()).min(SIDE), ..base }),
         TIME_HIGH => {
-            if state.high.is_some_and(|previous| data < previous) {
+            if drop_of(state, word) >= WRAP {
                 next.wraps += 1;
             }
             next.high = Some(data);
@@ -128,13 +131,26 @@ fn state_after(state: &State, word: Word) -> State {
     next
 }
 
+/// By how much a word lowers the high part. The first high part lowers none, nor does any word that is no TIME_HIGH.
+fn drop_of(state: &State, word: Word) -> u64 {
+    match (word.kind, state.high) {
+        (TIME_HIGH, Some(previous)) => previous.saturating_sub(u64::from(word.data)),
+        _ => 0,
+    }
+}
+
+/// Whether a word leads the clock back, or past its last wrap.
+fn bad_time(state: &State, word: Word, next: &State) -> bool {
+    (1..WRAP).contains(&drop_of(state, word)) || next.wraps > MOST_WRAPS
+}
+
 /// Why a word is refused, or 0: the first reason that holds. `room` is what the rows before it have left.
-fn refusal_of(word: Word, next: &State, rows: &[Row], width: u32, height: u32, room: usize) -> u64 {
+fn refusal_of(word: Word, bad_time: bool, rows: &[Row], width: u32, height: u32, room: usize) -> u64 {
     if RESERVED.contains(&word.kind) {
         3
     } else if word.kind == ADDR_Y && word.bit(11) == 1 {
         7
-    } else if next.wraps > MOST_WRAPS {
+    } else if bad_time {
         5
     } else if rows.iter().any(|row| row[0] == 1 && (row[3] >= width || row[4] >= height)) {
         6

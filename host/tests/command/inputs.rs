@@ -26,7 +26,7 @@ USB packet flag 1 sequence count 3 system time 4294967300
 
 /// EVT3 words: a pixel, three more of a vector, and a trigger after two wraps of the clock.
 pub fn evt3_words() -> Vec<u8> {
-    evt3::bytes_of(&[0x8001, 0x6002, 0x0003, 0x2805, 0x300a, 0x4805, 0x8000, 0x8fff, 0x8000, 0x6001, 0xaf00])
+    evt3::bytes_of(&[0x8001, 0x6002, 0x0003, 0x2805, 0x300a, 0x4805, 0x8fff, 0x8000, 0x8fff, 0x8000, 0x6001, 0xaf00])
 }
 
 pub const EVT3_ROWS: &str = "\

@@ -51,7 +51,9 @@ fry_event fry_event_of(const uint32_t *row, size_t len);
  * refused 2, where the group begins. */
 fry_reading fry_read_evt2(const uint8_t *bytes, size_t bytes_len, uint32_t width, uint32_t height, uint32_t *rows, size_t rows_len);
 
-/* Reads the EVT3 words of a recording. Refused at a word, in this order: 4, 3, 7, 5, 6, 2. */
+/* Reads the EVT3 words of a recording. Refused at a word, in this order: 4, 3, 7, 5, 6, 2. A high part of the time that is lower than the one
+ * before it by 2048 or more is a wrap of the clock, counted up to 1023 of them; one that is lower by 1 to 2047, and the 1024th wrap, are
+ * refused 5. Which of two high parts is the damaged one cannot be told: the last times before such a refusal may be wrong too. */
 fry_reading fry_read_evt3(const uint8_t *bytes, size_t bytes_len, uint32_t width, uint32_t height, uint32_t *rows, size_t rows_len);
 
 /* Reads the text header of a RAW or DAT file: every line from the first byte on that starts with a percent sign and a space, its

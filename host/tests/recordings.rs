@@ -139,6 +139,24 @@ fn kept_inputs() {
     compare_folder(&folder("tests/recordings"));
 }
 
+/// Which of the kept recordings whose high part falls are refused, where, and after how many rows.
+#[test]
+fn falling_high_parts() {
+    let folder = folder("tests/recordings");
+    let cases = [
+        ("one", (5, 1, 8)),
+        ("2047", (5, 1, 8)),
+        ("2048", (0, 2, 0)),
+        ("2049", (0, 2, 0)),
+        ("one-after-all-wraps", (5, 1, 4_100)),
+    ];
+    for (fall, answer) in cases {
+        let path = folder.join(format!("high-part-falls-by-{fall}.evt3"));
+        let reading = EVT3.compare(&path, &fs::read(&path).expect("a kept recording"), MOST_ROOM);
+        assert_eq!((reading.refusal, reading.rows.len(), reading.place), answer, "{}", path.display());
+    }
+}
+
 #[test]
 fn named_folder() {
     match env::var_os(NAMED_BY) {

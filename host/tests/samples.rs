@@ -19,7 +19,7 @@ struct Sample {
     fault: Option<(u64, usize)>,
 }
 
-const SAMPLES: [Sample; 9] = [
+const SAMPLES: [Sample; 10] = [
     Sample { name: "gate-relay-evt3.raw", format: RAW_EVT3, rows: [4_245, 1, 0, 0, 0, 0], times: Some((0, 89_604)), fault: None },
     Sample { name: "brake-relay-evt2.raw", format: RAW_EVT2, rows: [3_268, 1, 0, 0, 0, 0], times: Some((0, 109_441)), fault: None },
     Sample { name: "gate-relay.dat", format: DAT, rows: [4_245, 0, 0, 0, 0, 0], times: Some((0, 89_604)), fault: None },
@@ -28,6 +28,7 @@ const SAMPLES: [Sample; 9] = [
     Sample { name: "brake-relay-imu.evt2", format: EVT2, rows: [3_268, 1, 110, 0, 2, 0], times: Some((0, 109_441)), fault: None },
     Sample { name: "cut-inside-a-word.evt3", format: EVT3, rows: [2_593, 1, 0, 0, 0, 0], times: Some((0, 55_537)), fault: Some((4, 6_000)) },
     Sample { name: "reserved-word.evt2", format: EVT2, rows: [1_327, 1, 0, 0, 0, 0], times: Some((0, 75_473)), fault: Some((3, 6_000)) },
+    Sample { name: "clock-goes-back.raw", format: RAW_EVT3, rows: [68, 1, 0, 0, 0, 0], times: Some((0, 65_296)), fault: Some((5, 544)) },
     Sample { name: "comma-in-width.raw", format: RAW_EVT3, rows: [0; 6], times: None, fault: Some((9, 37)) },
 ];
 

@@ -1,14 +1,12 @@
 //! `convert`: a recording's rows written anew as bare words.
 use super::arguments::{Source, Words};
+use super::formats::EVT3_WRAP;
 use super::memory::{zeros, Lack};
 use super::progress::Progress;
 use super::recording::{time_of, Recording};
 use super::{new_file, output, refusals, Failure};
 use fryskelom::{write_evt2, write_evt3, RowFault, MOST_ROWS};
 use std::ffi::OsStr;
-
-/// Microseconds from one wrap of the EVT3 clock to the next.
-const WRAP: u64 = 16_777_216;
 
 impl Words {
     /// The name of `--to` and `--format`.
@@ -33,7 +31,7 @@ impl Words {
         let rows = (numbers.len() / 10).min(MOST_ROWS);
         match self {
             Words::Evt2 => 7 * rows,
-            Words::Evt3 => 4 * rows + 2 * numbers.chunks_exact(10).last().map_or(0, |row| time_of(row) / WRAP) as usize,
+            Words::Evt3 => 4 * rows + 2 * numbers.chunks_exact(10).last().map_or(0, |row| time_of(row) / EVT3_WRAP) as usize,
         }
     }
 

@@ -3,6 +3,9 @@ use fryskelom::{read_aedat, read_dat, read_evt2, read_evt3, read_raw_evt2, read_
 use std::ffi::OsStr;
 use std::path::Path;
 
+/// Microseconds from one wrap of the EVT3 clock to the next.
+pub const EVT3_WRAP: u64 = 16_777_216;
+
 /// The picture that was asked for bare words, which do not say it themselves.
 #[derive(Clone, Copy, Default)]
 pub struct Asked {
@@ -56,6 +59,14 @@ impl Format {
             Format::RawEvt3 => "RAW file of EVT3 words",
             Format::Dat => "DAT file",
             Format::Aedat => "AEDAT 3.1 file",
+        }
+    }
+
+    /// Microseconds from one wrap of the format's clock to the next, where its clock wraps.
+    pub fn wrap(self) -> Option<u64> {
+        match self {
+            Format::Evt3(_) | Format::RawEvt3 => Some(EVT3_WRAP),
+            _ => None,
         }
     }
 

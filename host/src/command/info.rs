@@ -11,7 +11,7 @@ pub fn print(source: &Source) -> Result<(), Failure> {
     let mut progress = Progress::new();
     let recording = Recording::load(source, &mut progress)?;
     let reading = recording.read(&mut progress);
-    let lines = [about_file(&recording), header::lines(&recording, reading.stop), about_rows(&reading)].concat();
+    let lines = [about_file(&recording), header::lines(&recording, reading.stop), about_rows(&recording, &reading)].concat();
     drop(progress);
     output::write((lines.join("\n") + "\n").as_bytes())?;
     reading.end(&recording)
@@ -30,12 +30,13 @@ fn about_file(recording: &Recording) -> Vec<String> {
     ]
 }
 
-fn about_rows(reading: &Reading) -> Vec<String> {
+fn about_rows(recording: &Recording, reading: &Reading) -> Vec<String> {
     let summary = Summary::of(reading.numbers());
     let part = if reading.stop.is_some() { " before the reading stopped" } else { "" };
     let mut lines = vec![format!("events: {}{part}", reading.rows())];
     lines.extend(KINDS.iter().zip(summary.kinds).map(|(kind, events)| format!("    {kind}: {events}")));
     lines.extend(summary.times());
+    lines.extend(recording.format.wrap().map(|wrap| summary.wraps(wrap)));
     lines
 }
 
@@ -69,5 +70,14 @@ impl Summary {
         // always six decimals, so that nobody takes the point for a separator of thousands
         let seconds = format!("{}.{:06} s", span / 1_000_000, span % 1_000_000);
         [format!("first time: {first} µs"), format!("last time: {last} µs"), format!("span: {span} µs, {seconds}")]
+    }
+
+    /// How often a clock that wraps after so many microseconds has done so. Times count every wrap, so that the last one tells.
+    fn wraps(&self, wrap: u64) -> String {
+        let wraps = match self.times {
+            Some((_, last)) => format!("{} before the last event", last / wrap),
+            None => "not known, since there is no event".to_string(),
+        };
+        format!("clock wraps: {wraps}; the clock wraps every {wrap} µs")
     }
 }

@@ -28,7 +28,8 @@ const RULES: [Rule; 14] = [
     },
     Rule {
         found: "a time goes back, is negative or passes the limit",
-        reading: "the camera's clock or the file is damaged at this place: do not use times after it",
+        reading: "the camera's clock or cable, or the file, is damaged at this place or just before it: use no time after it, and do not rely on the \
+                  last ones before it; try another cable and record again",
         writing: "rows are written in the order of time alone, and those of this recording are not in it: use them as ./fryskelom rows prints them",
     },
     Rule {

@@ -8,7 +8,7 @@ use crate::second::rows::{time_of, Row};
 /// A file's name, and how its bytes are made.
 pub type Recording = (&'static str, fn() -> Vec<u8>);
 
-pub const RECORDINGS: [Recording; 9] = [
+pub const RECORDINGS: [Recording; 10] = [
     ("gate-relay-evt3.raw", || [EVT3_HEADER, &evt3_words(&gate_relay())].concat()),
     ("brake-relay-evt2.raw", || [EVT2_HEADER, &evt2_words(&brake_relay())].concat()),
     ("gate-relay.dat", gate_relay_dat),
@@ -17,6 +17,7 @@ pub const RECORDINGS: [Recording; 9] = [
     ("brake-relay-imu.evt2", brake_relay_imu),
     ("cut-inside-a-word.evt3", cut_inside_a_word),
     ("reserved-word.evt2", reserved_word),
+    ("clock-goes-back.raw", clock_goes_back),
     ("comma-in-width.raw", || [COMMA_HEADER, &evt3_words(&gate_relay())].concat()),
 ];
 
@@ -138,6 +139,14 @@ fn cut_inside_a_word() -> Vec<u8> {
     let mut words = evt3_words(&gate_relay());
     words.truncate(6_001);
     words
+}
+
+/// The gate relay's RAW file with one wrong bit: the high part that the trigger comes under is 15 in place of 7, and the next one is 8.
+fn clock_goes_back() -> Vec<u8> {
+    let mut words = evt3_words(&gate_relay());
+    let high_part = words.chunks(2).position(|word| word == [0x07, 0x80]).expect("a high part of 7");
+    words[2 * high_part] ^= 0x08;
+    [EVT3_HEADER, &words].concat()
 }
 
 /// A word of type 2, which EVT2 reserves, amid the burst.

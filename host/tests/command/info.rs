@@ -1,6 +1,7 @@
 //! `info`: all of its text, for every format.
 use super::inputs;
 use super::run::{folder, run_on};
+use fryskelom::samples::evt3;
 
 const EVT2: &str = "\
 file: recording
@@ -23,7 +24,7 @@ span: 2 µs, 0.000002 s
 
 const RAW_EVT3: &str = r#"file: recording
 format: RAW file of EVT3 words (raw-evt3)
-size: 64 bytes
+size: 66 bytes
 header: the data begin at byte 42
     % evt 3.0
     % Width: 640
@@ -40,6 +41,7 @@ events: 5
 first time: 4098 µs
 last time: 33554433 µs
 span: 33550335 µs, 33.550335 s
+clock wraps: 2 before the last event; the clock wraps every 16777216 µs
 "#;
 
 const DAT: &str = "\
@@ -116,6 +118,36 @@ span: none
 fn a_packet_has_no_time() {
     let run = run_on(&folder("no-times"), &inputs::evt2_words()[..20], &["info", "recording", "--format", "evt2"]).good();
     assert!(run.text().ends_with(NO_TIMES), "{run:?}");
+}
+
+/// Of EVT3 words alone, bare or in a RAW file, and of the part before a refusal too.
+#[test]
+fn wraps_of_the_clock() {
+    let folder = folder("wraps");
+    let wraps = |words: &[u16], format: &str| {
+        let run = run_on(&folder, &evt3::bytes_of(words), &["info", "recording", "--format", format]);
+        run.text().lines().find_map(|line| line.strip_prefix("clock wraps: ").map(str::to_string))
+    };
+    let every = "; the clock wraps every 16777216 µs";
+    let cases: [(&[u16], &str); 7] = [
+        (&[0x8fff, 0x6fff, 0xa001], "0 before the last event"),
+        (&[0x8fff, 0x8000, 0x6000, 0xa001], "1 before the last event"),
+        (&[0x8fff, 0x6fff, 0xa001, 0x8000, 0x6000], "0 before the last event"),
+        (&[0x8fff, 0x8000, 0x8fff, 0x8000, 0x6000, 0xa001, 0x8001, 0x8000], "2 before the last event"),
+        (&[0x8fff, 0x6fff, 0x8000, 0xa001], "0 before the last event"),
+        (&[0x8fff, 0x8000, 0x6000], "not known, since there is no event"),
+        (&[], "not known, since there is no event"),
+    ];
+    for (words, text) in cases {
+        for format in ["evt3", "raw-evt3"] {
+            assert_eq!(wraps(words, format), Some(format!("{text}{every}")), "{words:x?}");
+        }
+    }
+    let all = [evt3::ALL_WRAPS, &[0x8fff, 0x6fff, 0xa001, 0x8000, 0xa001]].concat();
+    assert_eq!(wraps(&all, "evt3"), Some(format!("1023 before the last event{every}")));
+    for format in ["evt2", "raw-evt2", "dat", "aedat"] {
+        assert_eq!(wraps(&[0x8fff, 0x8000], format), None, "{format}");
+    }
 }
 
 #[test]

@@ -2,6 +2,7 @@
 use super::inputs::{aedat, dat, evt3_words};
 use super::run::{folder, run, run_on};
 use fryskelom::samples::aedat::{packet, polarity, special, Packet, END, POLARITY, SPECIAL, START};
+use fryskelom::samples::recordings::RECORDINGS;
 use fryskelom::samples::{evt2, evt3};
 
 #[test]
@@ -66,6 +67,8 @@ fn cases() -> Vec<Case> {
         file("aedat", 4, 61, 0, &[&aedat()[..70]]),
         words2(4, 8, 1, &[0xd000_0000, 0xf000_0000]),
         words2(5, 8, 1, &[0x8000_0000]),
+        words3(5, 8, 1, &[0x8000]),
+        words3(5, 12, 2, &[0x8fff, 0x2006, 0x8800]),
         file("dat", 5, 23, 1, &[&dat()[..23], &[0; 8]]),
         packets(5, 106, 1, &packet(POLARITY, 0, &[polarity(-1, 5, 3, 1)])),
         words3(6, 10, 2, &[0x2006, 0x27ff]),
@@ -115,6 +118,23 @@ fn whole_messages() {
              what to do: give --width and --height from 1 to 2048, or leave them out\n",
         );
     }
+}
+
+/// One wrong bit of a high part: the trigger under it comes 32768 µs late, the next high part is lower, and no time after that is read.
+#[test]
+fn a_clock_that_goes_back() {
+    let folder = folder("clock-goes-back");
+    let (_, make) = RECORDINGS.into_iter().find(|(name, _)| *name == "clock-goes-back.raw").expect("a sample");
+    let run = run_on(&folder, &make(), &["rows", "recording", "--format", "raw-evt3", "--events"]);
+    assert_eq!(run.status, Some(1));
+    assert_eq!(run.text().lines().filter(|line| line.contains("trigger")).collect::<Vec<_>>(), ["62768 µs trigger channel 0 rising"]);
+    assert_eq!(
+        run.stderr,
+        "refused 5: a time goes back, is negative or passes the limit\n\
+         at byte 544 of recording (counted from 0); 69 rows were finished before it\n\
+         what to do: the camera's clock or cable, or the file, is damaged at this place or just before it: use no time after it, and do not rely on \
+         the last ones before it; try another cable and record again\n"
+    );
 }
 
 #[test]

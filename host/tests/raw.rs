@@ -66,12 +66,13 @@ impl Reached for Evt3 {
     fn faults() -> Vec<Vec<u8>> {
         const PIXEL: [u16; 4] = [0x8000, 0x6040, 0x0003, 0x2805];
         let a_wrap_too_many = [evt3::ALL_WRAPS, &[0x8fff, 0x8000]].concat();
-        // room alone; 3; 7; 5; 6 by x, by y and by a vector; a vector that may lack room; 3 after another time
-        let words: [&[u16]; 9] = [
+        // room alone; 3; 7; 5 by a wrap and by a smaller drop; 6 by x, by y and by a vector; a vector that may lack room; 3 after another time
+        let words: [&[u16]; 10] = [
             &[0x2006, 0xa001],
             &[0x9000],
             &[0x0803],
             &a_wrap_too_many,
+            &[0x8800, 0x8001],
             &[0x2040],
             &[0x0030, 0x2005],
             &[0x3038, 0x4fff],

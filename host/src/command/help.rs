@@ -37,8 +37,8 @@ pub const INFO: &str = "\
 
 Prints the format, the size of the file, the lines of its header, the picture, how many events there are of each of the six kinds, and the
 first and the last time: the smallest and the largest, in whole microseconds. USB packets have no time and do not count there.
-Of EVT3 words, whose clock begins anew every 16777216 microseconds, also how often it had done so by the last event: more wraps than the
-recording is long for mean that its clock is damaged.
+Of EVT3 words, whose clock begins anew every 16777216 microseconds, also how often it did so before the last event and before the first: more
+wraps between the two than the recording took time for mean a damaged clock.
 If the recording is refused, all this is of the part before; the refusal follows on standard error, and the status is 1.
 
 For FORMAT and N see ./fryskelom --help.

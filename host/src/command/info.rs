@@ -72,10 +72,10 @@ impl Summary {
         [format!("first time: {first} µs"), format!("last time: {last} µs"), format!("span: {span} µs, {seconds}")]
     }
 
-    /// How often a clock that wraps after so many microseconds has done so. Times count every wrap, so that the last one tells.
+    /// How often a clock that wraps after so many microseconds has done so. Times count every wrap, so that the first and the last one tell.
     fn wraps(&self, wrap: u64) -> String {
         let wraps = match self.times {
-            Some((_, last)) => format!("{} before the last event", last / wrap),
+            Some((first, last)) => format!("{} before the last event, {} of them before the first", last / wrap, first / wrap),
             None => "not known, since there is no event".to_string(),
         };
         format!("clock wraps: {wraps}; the clock wraps every {wrap} µs")

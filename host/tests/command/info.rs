@@ -41,7 +41,7 @@ events: 5
 first time: 4098 µs
 last time: 33554433 µs
 span: 33550335 µs, 33.550335 s
-clock wraps: 2 before the last event; the clock wraps every 16777216 µs
+clock wraps: 2 before the last event, 0 of them before the first; the clock wraps every 16777216 µs
 "#;
 
 const DAT: &str = "\
@@ -130,11 +130,11 @@ fn wraps_of_the_clock() {
     };
     let every = "; the clock wraps every 16777216 µs";
     let cases: [(&[u16], &str); 7] = [
-        (&[0x8fff, 0x6fff, 0xa001], "0 before the last event"),
-        (&[0x8fff, 0x8000, 0x6000, 0xa001], "1 before the last event"),
-        (&[0x8fff, 0x6fff, 0xa001, 0x8000, 0x6000], "0 before the last event"),
-        (&[0x8fff, 0x8000, 0x8fff, 0x8000, 0x6000, 0xa001, 0x8001, 0x8000], "2 before the last event"),
-        (&[0x8fff, 0x6fff, 0x8000, 0xa001], "0 before the last event"),
+        (&[0x8fff, 0x6fff, 0xa001], "0 before the last event, 0 of them before the first"),
+        (&[0x8fff, 0x8000, 0x6000, 0xa001], "1 before the last event, 1 of them before the first"),
+        (&[0x8fff, 0x6fff, 0xa001, 0x8000, 0x6000], "0 before the last event, 0 of them before the first"),
+        (&[0x8fff, 0x6fff, 0xa001, 0x8000, 0x8fff, 0x8000, 0x6000, 0xa001, 0x8001, 0x8000], "2 before the last event, 0 of them before the first"),
+        (&[0x8fff, 0x6fff, 0x8000, 0xa001], "0 before the last event, 0 of them before the first"),
         (&[0x8fff, 0x8000, 0x6000], "not known, since there is no event"),
         (&[], "not known, since there is no event"),
     ];
@@ -144,7 +144,7 @@ fn wraps_of_the_clock() {
         }
     }
     let all = [evt3::ALL_WRAPS, &[0x8fff, 0x6fff, 0xa001, 0x8000, 0xa001]].concat();
-    assert_eq!(wraps(&all, "evt3"), Some(format!("1023 before the last event{every}")));
+    assert_eq!(wraps(&all, "evt3"), Some(format!("1023 before the last event, 1023 of them before the first{every}")));
     for format in ["evt2", "raw-evt2", "dat", "aedat"] {
         assert_eq!(wraps(&[0x8fff, 0x8000], format), None, "{format}");
     }

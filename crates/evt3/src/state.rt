@@ -47,7 +47,7 @@ impl State {
         }
     }
 
-    // How far a high part lies below the known one.
+    // By how much a high part drops below the known one.
     fn drop_to(self, high: u16) -> u16
         ensures { λ r. ⌜ r ≡ dropTo self high ⌝ }
     {

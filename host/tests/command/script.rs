@@ -10,8 +10,8 @@ use std::time::{Duration, SystemTime};
 
 const LIBRARY: &str = "target/staticlib/libfryskelom.a";
 const COMMAND: &str = "host/target/release/fryskelom";
-/// The source under `crates/` has no suffix of Rattle's: rt searches the whole repository for Rattle files, this test's folders included, and fails on one that
-/// belongs to no crate.
+/// The file under `crates/` does not have Rattle's suffix: rt looks for Rattle files in the whole repository, the folders of these tests included, and fails on
+/// one that belongs to no crate.
 const SOURCES: [&str; 5] = ["crates/rows/src/lib", "crates.txt", "host/src/lib.rs", "host/build.rs", "host/Cargo.toml"];
 
 /// Programs that say everything on standard output, and write nothing anew that is there.

@@ -1,10 +1,5 @@
--- Lemmas, and the laws proved (Kept).
+-- Lemmas.
 pub mod CountWords
-pub mod GoodRead
-pub mod Kept
-pub mod Places
-pub mod ReadBack
 pub mod RowSteps
 pub mod Spelled
-pub mod SpelledSteps
 pub mod Steps

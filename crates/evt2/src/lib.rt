@@ -18,10 +18,10 @@
 mod given;
 mod kind;
 mod reader;
-mod round_trip;
 mod state;
 mod writer;
 
+pub use kind::Kind;
 pub use reader::read;
 pub use state::State;
 pub use writer::write;

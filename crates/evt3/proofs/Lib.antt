@@ -1,27 +1,19 @@
--- Lemmas, and the laws proved (Kept).
+-- Lemmas.
 pub mod Bits
 pub mod Chosen
-pub mod ColumnCounts
 pub mod ColumnWalk
 pub mod Columns
-pub mod ColumnsBack
 pub mod Counting
-pub mod GoodRead
 pub mod Groups
-pub mod GroupsCut
-pub mod Kept
 pub mod Lengths
 pub mod Marks
 pub mod OtherRows
 pub mod PutSteps
-pub mod ReadBack
 pub mod RowRuns
 pub mod RowSteps
 pub mod SpanSteps
-pub mod SpelledLength
-pub mod SpelledSteps
 pub mod Steps
 pub mod Storing
-pub mod TimeBack
+pub mod TimeWords
 pub mod Walked
 pub mod WritableRows

@@ -1,5 +1,4 @@
--- Definitions that the contracts cite, and the laws.
-pub mod Promises
+-- Definitions that the contracts cite.
 pub mod Reader
 pub mod Spelling
 pub mod State

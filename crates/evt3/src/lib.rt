@@ -21,12 +21,12 @@ mod kind;
 mod length;
 mod put;
 mod reader;
-mod round_trip;
 mod span;
 mod state;
 mod told;
 mod writer;
 
+pub use kind::Kind;
 pub use reader::read;
 pub use state::Known;
 pub use state::State;

@@ -2,12 +2,13 @@
 use mathlib.Core.Path.{_∙_, ap}
 use Rattle.words.specs.Words.{Words, wordsOf}
 use Rattle.words.specs.Machine.{run}
-use Rattle.words.specs.Promises.{FieldSmall, FieldPlaced, FieldParts, TypeFound, TypeBelow, FieldBytes, RoomRefused, WordsBack, RunTwoParts, RowsFit, RowsGood, PlacesWithin}
+use Rattle.words.specs.Promises.{FieldSmall, FieldPlaced, FieldParts, TypeFound, TypeBelow, FieldBytes, RoomRefused, WordsBack, RunTwoParts, RowsFit, RowsGood, PlacesWithin, RoundTrip}
 use Rattle.words.proofs.BitFields as fields
 use Rattle.words.proofs.ByteFields as byteFields
 use Rattle.words.proofs.Bytes as bytes
 use Rattle.words.proofs.Cut.{words-join}
 use Rattle.words.proofs.Places.{reading-within}
+use Rattle.words.proofs.Returned.{comes-back}
 use Rattle.words.proofs.RowsGiven.{reading-fits, reading-good}
 use Rattle.words.proofs.TwoParts.{run-join}
 use Rattle.words.proofs.Writings.{room-exact}
@@ -49,3 +50,6 @@ rows-good S m Kept k ws s place room h = reading-good m k ws s place room h
 
 pub places-within : PlacesWithin
 places-within S m Kept k bytes s at room h g = reading-within m k bytes s at room h g
+
+pub round-trip : RoundTrip
+round-trip S s readingOf law = comes-back s readingOf law

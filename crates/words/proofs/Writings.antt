@@ -1,25 +1,24 @@
 -- What a writer answers, case by case, once its rows were judged and their words counted.
-use mathlib.Core.Path.{_≡_, refl, sym, _∙_, ap, ap₂}
+use mathlib.Core.Path.{_≡_, refl, sym, _∙_, ap}
 use Prim.Native.Nat.{ℕ, _*_, _≤_, _<_}
 use native.Mathlib.Omega.{arith}
 use mathlib.Core.Bool.{Bool, true, false, cond}
 use mathlib.Core.List.{List}
-use lib.ListN.{length, take}
+use lib.ListN.{length}
 use lib.Seq.{sets}
 use lib.Dec.{leb}
-use borrow.Author.Tests.{le-leb, lt-leb, leb-true, leb-false}
+use borrow.Author.Tests.{le-leb, lt-leb, leb-false}
 use Rattle.rows.specs.declared.fault.Fault.{Fault}
 use Rattle.rows.specs.declared.fault.Fault.the-variants.{NoRoom, BadList}
 use Rattle.rows.specs.declared.fault.Writing.{Writing}
 use Rattle.rows.specs.declared.fault.Writing.the-variants.{Written, Refused}
 use Rattle.rows.specs.declared.fault.WritingNumbers.{WritingNumbers}
 use Rattle.rows.specs.Fault.{writingNumbers}
-use Rattle.rows.specs.Row.{over, rowsOf}
+use Rattle.rows.specs.Row.{rowsOf}
 use Rattle.rows.specs.Rules.{Verdict, accepted, refused, verdictFrom, goodLength, verdictOf}
-use Rattle.rows.proofs.Kept.{over-kept}
 use Rattle.rows.proofs.Stored.{sets-over}
 use Rattle.words.specs.Words.{bytesOfAll}
-use Rattle.words.specs.Writer.{Spelling, spelled, thenJudged, writingVerdict, writingOf, WroteAs, WroteNumbers}
+use Rattle.words.specs.Writer.{Spelling, spelled, writingVerdict, writingOf, WroteAs, WroteNumbers}
 use Rattle.words.specs.Promises.{RoomExact}
 use Rattle.words.proofs.Writes.{all-length}
 
@@ -84,44 +83,6 @@ room-exact s l bytes e =
     only : (t : Bool) → leb (length (spelled s l) * s .size) bytes ≡ t → cond t accepted (refused NoRoom 0) ≡ refused NoRoom 0 → bytes < length (spelled s l) * s .size
     only true f g = let z : _≡_ {A = ℕ} 0 1 = cc in absurd (omega arith)
     only false f g = leb-false _ _ f
-
--- a verdict that refuses nothing: the list passed, and there is room for its words
-accepted-room : (s : Spelling) (l : List ℕ) (bytes : ℕ) → writingVerdict s l bytes ≡ accepted → (verdictOf (s .writable) l ≡ accepted) × (length (spelled s l) * s .size ≤ bytes)
-unfolding writingVerdict
-accepted-room s l bytes h = go (verdictOf (s .writable) l) refl (leb (length (spelled s l) * s .size) bytes) refl h
-  where
-    go : (v : Verdict) → verdictOf (s .writable) l ≡ v → (t : Bool) → leb (length (spelled s l) * s .size) bytes ≡ t
-        → thenJudged v (cond t accepted (refused NoRoom 0)) ≡ accepted → (verdictOf (s .writable) l ≡ accepted) × (length (spelled s l) * s .size ≤ bytes)
-    go accepted e true f g = (e, leb-true _ _ f)
-    go accepted e false f g = let z : _≡_ {A = ℕ} 0 1 = cc in absurd (omega arith)
-    go (refused q i) e t f g = let z : _≡_ {A = ℕ} 0 1 = cc in absurd (omega arith)
-
--- what a writer did that answered a number of words, or a refusal
-pub record WroteWords (s : Spelling) (l old new : List ℕ) (n : ℕ) : Type 0 where
-  pub verdict : writingVerdict s l (length old) ≡ accepted
-  pub passed : verdictOf (s .writable) l ≡ accepted
-  pub count : n ≡ length (spelled s l)
-  pub fits : n * s .size ≤ length old
-  pub bytes : take (n * s .size) new ≡ bytesOfAll (s .size) (spelled s l)
-
-module _ (s : Spelling) (l old : List ℕ) {new : List ℕ} {r : Writing} (h : WroteAs s l old new r) where
-  pub wrote-words : {n : ℕ} → r ≡ Written n → WroteWords s l old new n
-  wrote-words {n} e =
-      let is = same-written (writingVerdict s l (length old)) (sym e ∙ h .answer) in
-      let ok = accepted-room s l (length old) (is .0) in
-      let all : List ℕ = bytesOfAll (s .size) (spelled s l) in
-      let long : n * s .size ≡ length all = ap (λ (k : ℕ). k * s .size) (is .1) ∙ sym (all-length (s .size) (spelled s l)) in
-      let put : new ≡ over all old = h .wrote ∙ rw (is .0) in
-      record {
-        verdict = is .0;
-        passed = ok .0;
-        count = is .1;
-        fits = rw (is .1) (ok .1);
-        bytes = ap₂ (λ (k : ℕ) (b : List ℕ). take k b) long put ∙ over-kept .front all old;
-      }
-
-  pub wrote-nothing : {f : Fault} {i : ℕ} → r ≡ Refused f i → writingVerdict s l (length old) ≡ refused f i
-  wrote-nothing e = same-refused (writingVerdict s l (length old)) (length (spelled s l)) (sym e ∙ h .answer)
 
 -- the same answer as numbers
 pub writes-numbers : {s : Spelling} {l old new : List ℕ} {r : Writing} {n : WritingNumbers} → WroteAs s l old new r → n ≡ writingNumbers r → WroteNumbers s l old new n

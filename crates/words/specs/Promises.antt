@@ -5,10 +5,11 @@ use mathlib.Core.List.{List, [], _∷_, _++_}
 use lib.ListN.{length, take, drop, getD}
 use Rattle.rows.specs.declared.fault.Fault.the-variants.{NoRoom}
 use Rattle.rows.specs.Rules.{AllGood, accepted, refused, verdictOf}
-use Rattle.rows.specs.Runs.{andThen, EndsWithin}
+use Rattle.rows.specs.Runs.{Run, andThen, EndsWithin}
 use Rattle.words.specs.Words.{value, Words, word, wordsOf, bytesOfAll}
 use Rattle.words.specs.Fields.{field, typed, placed}
 use Rattle.words.specs.Machine.{Machine, run, reading, readFrom, Keeps, Follows}
+use Rattle.words.specs.RoundTrip.{ReadsBack, ComesBack}
 use Rattle.words.specs.Writer.{Spelling, spelled, writingVerdict}
 
 -- a field is below 2^width
@@ -76,3 +77,7 @@ RowsGood = (S : Type 0) (m : Machine S) (Kept : S → Type 0) → Keeps m Kept �
 abbrev pub PlacesWithin : Type 1
 PlacesWithin = (S : Type 0) (m : Machine S) (Kept : S → ℕ → Type 0) → Follows m Kept → (bytes : List ℕ) (s : S) (at room : ℕ) → Kept s at → at ≤ length bytes
     → EndsWithin (readFrom m bytes s at room .ending) (length bytes)
+
+-- 01, demand 2: of every format whose words are read as their rows, the writer's promise and the reader's together bring every list back
+abbrev pub RoundTrip : Type 1
+RoundTrip = (S : Type 0) (s : Spelling) (readingOf : List ℕ → ℕ → Run S) → ReadsBack s readingOf → ComesBack s readingOf

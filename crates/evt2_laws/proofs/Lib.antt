@@ -1,0 +1,6 @@
+-- Lemmas, and the laws proved (Kept).
+pub mod GoodRead
+pub mod Kept
+pub mod Places
+pub mod ReadBack
+pub mod SpelledSteps

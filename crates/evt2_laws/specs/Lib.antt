@@ -1,0 +1,2 @@
+-- The laws of EVT2.
+pub mod Promises

@@ -1,0 +1,2 @@
+-- The laws of EVT3.
+pub mod Promises

@@ -23,5 +23,12 @@ mod reader;
 mod special;
 mod state;
 
+pub use lines::Lines;
+pub use lines::Stage;
+pub use lines::Step;
+pub use packet::Kind;
+pub use packet::PacketHeader;
+pub use packet::Use;
 pub use reader::read;
+pub use special::Meaning;
 pub use state::State;

@@ -5,21 +5,21 @@ use header::Line;
 use rows::Fault;
 
 // Which line comes next.
-pub(crate) enum Stage {
+pub enum Stage {
     Version,
     Format,
     Further,
 }
 
 // A line: refused, or good, of some length, and the last one or not.
-pub(crate) enum Step {
+pub enum Step {
     Stop(Fault),
     More(usize),
     Over(usize),
 }
 
 // Where the packets begin; or the refusal, at the first byte of the line at fault.
-pub(crate) enum Lines {
+pub enum Lines {
     Data(usize),
     Refused { fault: Fault, place: usize },
 }

@@ -3,7 +3,7 @@ ghost use mathlib.Core.Path.{_≡_};
 ghost use Rattle.aedat.specs.Specials.{meaningOf};
 
 // An edge on a channel, 1 rising; or a special event of its own.
-pub(crate) enum Meaning {
+pub enum Meaning {
     Edge { channel: u32, edge: u32 },
     Other,
 }

@@ -3,7 +3,7 @@
 // include/fryskelom.h declares what stands here, under the names that C callers use. A slice passes as a pointer and a
 // length; the pointer is never null, and buffers do not overlap.
 ghost use mathlib.Core.Path.{_≡_};
-ghost use Rattle.rows.specs.Event.{eventNumbers};
+ghost use Rattle.events.specs.Event.{eventNumbers};
 ghost use Rattle.rows.specs.Row.{roomOf};
 ghost use Rattle.rows.specs.Runs.{ReadNumbers};
 ghost use Rattle.words.specs.Picture.{pictureOf};
@@ -19,7 +19,7 @@ ghost use Rattle.dat.specs.Reader as dat;
 ghost use Rattle.aedat.specs.Reader as aedat;
 use header::HeaderNumbers;
 use raw::Format;
-use rows::EventNumbers;
+use events::EventNumbers;
 use rows::ReadingNumbers;
 use rows::WritingNumbers;
 
@@ -28,7 +28,7 @@ use rows::WritingNumbers;
 pub extern "C" fn fry_event_of(row: &[u32]) -> EventNumbers
     ensures { λ r. ⌜ r ≡ eventNumbers (now (row .entry)) ⌝ }
 {
-    rows::event_numbers(row)
+    events::event_numbers(row)
 }
 
 // The rows of EVT2 words.

@@ -13,9 +13,9 @@ use Rattle.rows.proofs.Lists.{part-rest}
 use Rattle.rows.proofs.Viewed.{reads-as, as-within, answerFrom, reads-from, reads-place, from-within}
 use Rattle.words.specs.Picture.{pictureOf}
 use Rattle.evt2.specs.Reader as evt2Reader
-use Rattle.evt2.proofs.Kept as evt2
+use Rattle.evt2_laws.proofs.Kept as evt2
 use Rattle.evt3.specs.Reader as evt3Reader
-use Rattle.evt3.proofs.Kept as evt3
+use Rattle.evt3_laws.proofs.Kept as evt3
 use Rattle.raw.specs.declared.reader.Format.{Format}
 use Rattle.raw.specs.declared.reader.Format.the-variants.{Evt2, Evt3}
 use Rattle.raw.specs.Reader.{wordsAs}

@@ -7,7 +7,7 @@ use mathlib.Core.List.{List, [], _∷_, _++_}
 use lib.Dec.{ltb}
 use borrow.Author.Tests.{lt-ltb, ltb-true}
 use Rattle.rows.specs.declared.row.Row.{Row}
-use Rattle.rows.specs.declared.rules.Kind.the-variants.{ImuCounts}
+use Rattle.rows.specs.declared.rules.Kind.the-variants.{ImuCounts, Other}
 use Rattle.rows.specs.Row.{timeOf, timed, pixelRow, triggerRow, countsRow, singlesRow, packetRow, specialRow}
 use Rattle.rows.specs.Rules.{below, unused, timely, kindOf, goodAs, goodRow, AllGood}
 
@@ -19,6 +19,15 @@ pub and-second : (x y : Bool) → x && y ≡ true → y ≡ true
 and-second true y e = e
 and-second false true e = refl
 and-second false false e = e
+
+-- a row is good by the rules of its kind, and no row of another kind is
+pub good-by-kind : (r : Row) → goodRow r ≡ goodAs (kindOf (r .kind)) r
+unfolding goodRow
+good-by-kind r = refl
+
+pub other-bad : (r : Row) → goodAs Other r ≡ false
+unfolding goodAs
+other-bad r = refl
 
 -- each of some numbers below a limit
 abbrev pub Below : ℕ → List ℕ → Type 0

@@ -7,30 +7,18 @@
 //     Row::pixel(time, x, y, polarity)    a row of a kind from its values; so for the other five kinds
 //     put(rows, i, row), get(rows, i)     row i of a lent slice; where there is no row i nothing is touched
 //     good(row), judge(kind, row, ..)     the row rules, and what a writer asks of one row after another
-//     event_of(row)                       the typed event, an IMU's readings as f32
 //     Reading, Writing, Fault             what a reader and a writer answer, with the number of each refusal
 //
 // Each function's contract is an equation with a definition of specs/; specs/Promises.antt has the laws.
-mod event;
 mod fault;
-mod readings;
 mod row;
 mod rules;
 
-pub use event::Conversion;
-pub use event::Event;
-pub use event::EventNumbers;
-pub use event::Patterns;
-pub use event::event_numbers;
-pub use event::event_of;
 pub use fault::Fault;
 pub use fault::Reading;
 pub use fault::ReadingNumbers;
 pub use fault::Writing;
 pub use fault::WritingNumbers;
-pub use readings::acceleration;
-pub use readings::rotation;
-pub use readings::single;
 pub use row::Row;
 pub use row::RowAt;
 pub use row::get;

@@ -1,9 +1,9 @@
 //! Every refusal that a reader or a writer can give, reached through the command.
 use super::inputs::{aedat, dat, evt3_words};
 use super::run::{folder, run, run_on};
-use fryskelom::samples::aedat::{packet, polarity, special, Packet, END, POLARITY, SPECIAL, START};
-use fryskelom::samples::recordings::RECORDINGS;
-use fryskelom::samples::{evt2, evt3};
+use trials::samples::aedat::{packet, polarity, special, Packet, END, POLARITY, SPECIAL, START};
+use trials::samples::recordings::RECORDINGS;
+use trials::samples::{evt2, evt3};
 
 #[test]
 fn the_table() {

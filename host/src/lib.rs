@@ -18,6 +18,9 @@ pub const MOST_ROWS: usize = 16_777_216;
 pub const EVT_SIDE: u32 = 2_048;
 pub const DAT_SIDE: u32 = 16_384;
 
+/// How many refusals there are; their numbers are those from 1 on.
+pub const REFUSALS: usize = 14;
+
 /// Why an input was refused: the number of the README's table.
 #[derive(Clone, Copy, Debug, PartialEq, Eq)]
 pub struct Refusal(pub u64);

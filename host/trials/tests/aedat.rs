@@ -15,10 +15,11 @@ mod packets;
 mod reached;
 
 use answer::answer;
-use files::{compare_all, compare_longest, Family, MOST};
+use files::{compare_all, compare_longest, Family};
 use reached::Reached;
-use trials::samples::Numbers;
 use trials::samples::aedat::{Packet, END, FRAME, START};
+use trials::samples::Numbers;
+use trials::second::words::MOST_BYTES;
 use trials::{fast, numbers};
 
 type Comparer = files::Comparer<Reached>;
@@ -76,7 +77,7 @@ fn hand_written_reader() {
 /// One packet that is jumped takes all of the longest input.
 #[test]
 fn longest_input() {
-    let data = MOST - START.len() - END.len() - 28;
+    let data = MOST_BYTES - START.len() - END.len() - 28;
     let start = file(&[Packet { valid: 0, ..Packet::new(FRAME, 1, data as i32) }.bytes().to_vec()]);
     compare_longest::<Reached>(&[numbers::read_aedat, hand_written], &start, (0, 0, 0));
 }

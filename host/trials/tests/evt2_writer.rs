@@ -6,10 +6,10 @@ mod writers;
 use fryskelom::read_evt2;
 use trials::samples::evt2::{a_start, list, Scene};
 use trials::samples::{imu, Numbers};
-use trials::second::rows::{limits, time_of, Row};
+use trials::second::rows::{limits, time_of, Row, MOST_ROWS};
 use trials::second::words::Writing;
 use trials::{fast, numbers, second};
-use writers::{answer, compare_all, compare_longest, often, write_longest, Answer, MOST_ROWS};
+use writers::{answer, compare_all, compare_longest, often, write_longest, Answer};
 
 fn hand_written(rows: &[u32], out: &mut [u8]) -> Answer {
     answer(fast::evt2::write(rows, out))

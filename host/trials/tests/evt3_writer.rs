@@ -8,10 +8,10 @@ use fryskelom::read_evt3;
 use trials::samples::evt3::{a_start, list, Scene};
 use trials::samples::{pixel, trigger, Numbers, LAST_TIME};
 use trials::second::evt3::groups;
-use trials::second::rows::{limits, time_of, Row};
+use trials::second::rows::{limits, time_of, Row, MOST_ROWS};
 use trials::second::words::Writing;
 use trials::{fast, numbers, second};
-use writers::{answer, compare_all, compare_longest, often, write_longest, Answer, Family, Reached as _, Writer, MOST_ROWS};
+use writers::{answer, compare_all, compare_longest, often, write_longest, Answer, Family, Reached as _, Writer};
 
 const WRAP: u64 = 16_777_216;
 

@@ -9,7 +9,7 @@ use fryskelom::{read_evt2, read_evt3, Fault};
 use std::path::{Path, PathBuf};
 use std::{env, fs};
 use trials::samples::row;
-use trials::second::rows::{time_of, Row};
+use trials::second::rows::{time_of, Row, MOST_ROWS};
 use trials::second::words::{Reading, Writing, SIDE};
 use trials::{in_repository, numbers, second};
 
@@ -20,9 +20,6 @@ const NAMED_BY: &str = "FRYSKELOM_RECORDINGS";
 
 /// Of a recording so many rows are compared, 4 GB, and then that there is no room for the next.
 const MOST_ROOM: usize = 100_000_000;
-
-/// The most rows of a list that is written.
-const MOST_WRITTEN: usize = 16_777_216;
 
 /// The formats that a file is read by: any bytes are words, and its suffix may name others.
 fn formats_of(path: &Path) -> Vec<Format> {
@@ -71,7 +68,7 @@ impl Written {
             last = if fits { time_of(row) } else { last };
             fits
         });
-        accepted.take(MOST_WRITTEN).copied().collect()
+        accepted.take(MOST_ROWS).copied().collect()
     }
 
     /// Compares with a buffer that is long enough and one that is not, and reads back what was written.

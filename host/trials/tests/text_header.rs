@@ -6,8 +6,9 @@ mod readers;
 use readers::headers::{pairs, short_headers};
 use readers::{by_second, hand_written, Reader, LIMITS, READERS};
 use trials::numbers;
-use trials::samples::Numbers;
 use trials::samples::header::header;
+use trials::samples::Numbers;
+use trials::second::words::MOST_BYTES;
 
 /// Holds a reader to the second implementation and counts what was reached.
 struct Comparer {
@@ -207,11 +208,10 @@ fn hand_written_reader() {
 /// The longest input that is read and the next one. Neither is looked at past its first lines.
 #[test]
 fn longest_input() {
-    const MOST: usize = 1_073_741_824;
-    let mut bytes = vec![0; MOST + 1];
+    let mut bytes = vec![0; MOST_BYTES + 1];
     bytes[..12].copy_from_slice(b"% width 64\n\n");
     for reader in READERS {
-        assert_eq!(reader(&bytes[..MOST], 2_048), (0, 11, 64, 2_048));
+        assert_eq!(reader(&bytes[..MOST_BYTES], 2_048), (0, 11, 64, 2_048));
         assert_eq!(reader(&bytes, 2_048), (1, 0, 0, 0));
         assert_eq!(reader(&bytes, 0), (1, 0, 0, 0));
     }

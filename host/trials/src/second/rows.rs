@@ -4,7 +4,8 @@
 pub type Row = [u32; 10];
 
 const TIMES: u64 = 1 << 34;
-const MOST_ROWS: usize = 16_777_216;
+/// The most rows of a list that is written.
+pub const MOST_ROWS: usize = 16_777_216;
 
 /// For each kind 1 to 6 the number of values that each of its seven data numbers may take, from 0 on.
 const LIMITS: [[u64; 7]; 6] = {

@@ -1,7 +1,7 @@
 //! Events: every special type, times at their limits and in any order, any bits.
 use crate::{file, Comparer};
-use trials::samples::Numbers;
 use trials::samples::aedat::{imu6, invalid, packet, polarity, special, IMU6, POLARITY, SPECIAL};
+use trials::samples::Numbers;
 
 /// Every special type with and without its mark, with any data, before and after another event's time, with and without room.
 pub fn special_types(comparer: &mut Comparer) {

@@ -1,7 +1,7 @@
 //! Header lines: of every length, with any byte changed, cut after any one or two bytes, and made of pieces in any order.
 use crate::Comparer;
-use trials::samples::Numbers;
 use trials::samples::aedat::{packet, polarity, END, POLARITY, START};
+use trials::samples::Numbers;
 
 /// A packet that is read where the lines before it are good.
 fn data() -> Vec<u8> {

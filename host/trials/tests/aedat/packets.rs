@@ -1,8 +1,8 @@
 //! Packets: every field at its limits, every type and source, sizes and numbers of a large product, marks that do not add up.
 use crate::{file, Comparer};
 use std::collections::BTreeSet;
-use trials::samples::Numbers;
 use trials::samples::aedat::{imu6, invalid, packet, polarity, special, Packet, FRAME, IMU6, IMU9, POLARITY, SPECIAL};
+use trials::samples::Numbers;
 
 /// A packet of each sort with its data; events that are read have time 100.
 fn some_packets() -> Vec<(Packet, Vec<u8>)> {

@@ -1,7 +1,7 @@
 //! What AEDAT inputs have reached: where and why each was refused, and what was read.
 use crate::files::{self, often};
-use trials::samples::Numbers;
 use trials::samples::aedat::{a_start, header, imu6, invalid, packet, polarity, recording, special, Scene, IMU6, POLARITY, SPECIAL};
+use trials::samples::Numbers;
 use trials::second;
 use trials::second::aedat::Packet;
 use trials::second::words::Reading;

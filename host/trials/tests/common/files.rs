@@ -2,9 +2,12 @@
 //! that are damaged, cut, changed at every byte and short of room.
 #[path = "lent.rs"]
 mod lent;
+#[path = "often.rs"]
+mod often;
 
+pub use often::often;
 use trials::samples::Numbers;
-use trials::second::words::Reading;
+use trials::second::words::{Reading, MOST_BYTES};
 
 /// The refusal, the finished rows and the place.
 pub type Answer = (u64, u64, u64);
@@ -27,11 +30,6 @@ pub trait Reached: Default {
 
     /// Fails where something that the inputs are there for was not reached.
     fn check(&self);
-}
-
-/// Fails where something was reached by few inputs or by none.
-pub fn often(what: &str, which: usize, count: usize) {
-    assert!(count >= 1_000, "{what} {which}: {count} times only");
 }
 
 /// Holds a reader to the second implementation and counts what was reached.
@@ -139,16 +137,13 @@ pub fn compare_all<R: Reached>(reader: Reader, own: &[Family<R>]) {
     comparer.reached.check();
 }
 
-/// The longest input.
-pub const MOST: usize = 1_073_741_824;
-
 /// The longest input that is read and the next one: a start, then zeros. Neither gives a row.
 pub fn compare_longest<R: Reached>(readers: &[Reader], start: &[u8], expected: Answer) {
-    let mut bytes = vec![0; MOST + 1];
+    let mut bytes = vec![0; MOST_BYTES + 1];
     bytes[..start.len()].copy_from_slice(start);
     for &reader in readers {
         let mut comparer = Comparer::<R>::new(reader);
-        for (length, expected) in [(MOST, expected), (MOST + 1, (1, 0, 0))] {
+        for (length, expected) in [(MOST_BYTES, expected), (MOST_BYTES + 1, (1, 0, 0))] {
             let mut rows = [7; 25];
             assert_eq!(reader(&bytes[..length], &mut rows), expected, "{length} bytes");
             assert_eq!(rows, [7; 25]);

@@ -4,10 +4,14 @@
 mod answer;
 #[path = "lent.rs"]
 mod lent;
+#[path = "often.rs"]
+mod often;
 
 pub use answer::answer;
+use fryskelom::REFUSALS;
+pub use often::often;
 use trials::samples::{Numbers, Picture};
-use trials::second::words::Reading;
+use trials::second::words::{Reading, MOST_BYTES};
 
 /// The refusal, the finished rows and the place.
 pub type Answer = (u64, u64, u64);
@@ -36,24 +40,19 @@ pub trait Reached: Default {
     fn check(&self);
 }
 
-/// Fails where something was reached by few inputs or by none.
-pub fn often(what: &str, which: usize, count: usize) {
-    assert!(count >= 1_000, "{what} {which}: {count} times only");
-}
-
 /// Holds a reader to the second implementation and counts what was reached.
 pub struct Comparer<R> {
     reader: Reader,
     inputs: usize,
     finished: usize,
     /// Refusals by number and by the type of the word at fault.
-    refused: [[usize; 16]; 15],
+    refused: [[usize; 16]; REFUSALS + 1],
     reached: R,
 }
 
 impl<R: Reached> Comparer<R> {
     fn new(reader: Reader) -> Comparer<R> {
-        Comparer { reader, inputs: 0, finished: 0, refused: [[0; 16]; 15], reached: R::default() }
+        Comparer { reader, inputs: 0, finished: 0, refused: [[0; 16]; REFUSALS + 1], reached: R::default() }
     }
 
     /// Compares with room for every row: for just that many, or for a little more.
@@ -206,12 +205,11 @@ pub fn compare_all<R: Reached>(reader: Reader, own: &[Family<R>]) {
 
 /// The longest input that is read and the next one. Neither is looked at past its first word, whose type 9 every format reserves.
 pub fn compare_longest<R: Reached>(readers: [Reader; 2]) {
-    const MOST: usize = 1_073_741_824;
-    let mut bytes = vec![0u8; MOST + 1];
+    let mut bytes = vec![0u8; MOST_BYTES + 1];
     bytes[R::SIZE - 1] = 0x90;
     for reader in readers {
         let mut comparer = Comparer::<R>::new(reader);
-        for (length, picture, refusal) in [(MOST, LARGEST, 3), (MOST, (0, 1), 14), (MOST + 1, LARGEST, 1), (MOST + 1, (0, 1), 1)] {
+        for (length, picture, refusal) in [(MOST_BYTES, LARGEST, 3), (MOST_BYTES, (0, 1), 14), (MOST_BYTES + 1, LARGEST, 1), (MOST_BYTES + 1, (0, 1), 1)] {
             let before = comparer.refused(refusal);
             comparer.compare_lent(&bytes[..length], picture, 25);
             assert_eq!(comparer.refused(refusal), before + 1, "{length} bytes were to be refused {refusal}");

@@ -4,8 +4,9 @@ mod files;
 #[path = "headers.rs"]
 mod headers;
 
-use files::Reader;
 pub use files::often;
+use files::Reader;
+use fryskelom::REFUSALS;
 use headers::{pairs, short_headers};
 use trials::samples::header::header;
 use trials::samples::{Numbers, Picture};
@@ -43,9 +44,9 @@ pub trait Reached: Default {
 pub struct Headed<R> {
     finished: usize,
     /// Refusals of the header by number.
-    in_header: [usize; 15],
+    in_header: [usize; REFUSALS + 1],
     /// Refusals after it by number.
-    after_header: [usize; 15],
+    after_header: [usize; REFUSALS + 1],
     reached: R,
 }
 

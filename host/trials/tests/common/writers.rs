@@ -5,10 +5,10 @@ mod lent;
 #[path = "lists.rs"]
 mod lists;
 
-use fryskelom::{Fault, RowFault};
+use fryskelom::{Fault, RowFault, REFUSALS};
 use std::collections::BTreeSet;
 use trials::samples::Numbers;
-use trials::second::rows::{time_of, Row};
+use trials::second::rows::{time_of, Row, MOST_ROWS};
 use trials::second::words::Writing;
 
 /// The refusal, and the number of words or the index of a row.
@@ -17,8 +17,6 @@ pub type Answer = (u64, u64);
 pub type Writer = fn(&[u32], &mut [u8]) -> Answer;
 
 pub type Reader = fn(&[u8], u32, u32, &mut [u32]) -> Result<usize, Fault>;
-
-pub const MOST_ROWS: usize = 16_777_216;
 
 pub fn answer(writing: Result<usize, RowFault>) -> Answer {
     match writing {
@@ -71,7 +69,7 @@ pub struct Comparer<R> {
     /// Rows of a time that takes more than 32 bits.
     late: usize,
     /// Rows that go back (5) and rows at fault (12), by the index 0, 1, 2 or a later one.
-    refused: [[usize; 4]; 15],
+    refused: [[usize; 4]; REFUSALS + 1],
     /// Rows at fault by kind, 7 standing for all others, and by the first number that breaks a rule of this kind.
     broken: [[usize; 10]; 8],
     /// Rows at fault that also go back.
@@ -92,7 +90,7 @@ impl<R: Reached> Comparer<R> {
             inputs: 0,
             written: 0,
             late: 0,
-            refused: [[0; 4]; 15],
+            refused: [[0; 4]; REFUSALS + 1],
             broken: [[0; 10]; 8],
             both: 0,
             short: [0; 9],

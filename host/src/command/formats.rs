@@ -1,5 +1,7 @@
 //! The formats that a recording can have. What the command knows of a format stands in its entry of the table, and nowhere else.
-use fryskelom::{read_aedat, read_dat, read_evt2, read_evt3, read_raw_evt2, read_raw_evt3, write_evt2, write_evt3, Fault, RowFault, DAT_SIDE, EVT_SIDE};
+use fryskelom::{
+    read_aedat, read_dat, read_evt2, read_evt3, read_raw_evt2, read_raw_evt3, write_evt2, write_evt3, Fault, RowFault, DAT_SIDE, EVT_SIDE,
+};
 use std::ffi::OsStr;
 use std::fmt::Display;
 use std::path::Path;

@@ -131,7 +131,7 @@ fn unknown_format(path: &OsStr) -> String {
         Some("raw") => format!(
             "{name}: a RAW file holds {} words, and you say which: {} \
              (a line such as `% evt 3.0` among the first lines of the file usually tells)",
-            capitals(in_raw_files(), "or"),
+            capitals(in_raw_files()),
             listed(in_raw_files(), "--format raw-", "or")
         ),
         _ => format!(
@@ -157,7 +157,7 @@ fn out(given: &Given) -> Result<OsString, String> {
         Some(_) => Err(format!(
             "{}: by this name bare words would later be taken for a {} file; end it in {}",
             path.display(),
-            capitals(suffixes(), "or"),
+            capitals(suffixes()),
             listed(names_written(), ".", "or")
         )),
         None => Ok(path.clone()),

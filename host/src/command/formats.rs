@@ -16,16 +16,20 @@ pub struct Format {
     /// The suffix that tells it.
     suffix: Option<&'static str>,
     pub head: Head,
-    /// The library's reading, for the picture that was asked of bare words.
-    pub read: fn(&[u8], Asked, &mut [u32]) -> Result<usize, Fault>,
+    /// The library's reading.
+    pub read: Read,
     /// Microseconds from one wrap of its clock to the next, where its clock wraps.
     pub wrap: Option<u64>,
     /// As many rows as so many bytes can give.
     pub most_rows: fn(usize) -> usize,
     /// As many rows as there is room for at first.
     pub first_rows: fn(usize) -> usize,
+    /// How it is written, where it is.
     words: Option<Words>,
 }
+
+/// Reads bytes into rows. What was asked of the picture counts for bare words alone.
+type Read = fn(&[u8], Asked, &mut [u32]) -> Result<usize, Fault>;
 
 /// What stands before the data, and says how large the picture is.
 #[derive(Clone, Copy, PartialEq)]
@@ -45,11 +49,9 @@ pub struct Asked {
     pub height: Option<u32>,
 }
 
-impl Asked {
-    /// The width and the height to read for.
-    fn sides(self) -> [u32; 2] {
-        [self.width, self.height].map(|side| side.unwrap_or(EVT_SIDE))
-    }
+/// The pixels of a side that was asked or left out.
+fn side(asked: Option<u32>) -> u32 {
+    asked.unwrap_or(EVT_SIDE)
 }
 
 /// How a format of bare words is written.
@@ -79,10 +81,7 @@ pub const FORMATS: &[Format] = &[
         help: WORDS,
         suffix: None,
         head: Head::None,
-        read: |bytes, asked, rows| {
-            let [width, height] = asked.sides();
-            read_evt2(bytes, width, height, rows)
-        },
+        read: |bytes, asked, rows| read_evt2(bytes, side(asked.width), side(asked.height), rows),
         wrap: None,
         most_rows: |bytes| bytes / 4,
         first_rows: |bytes| bytes / 4,
@@ -99,10 +98,7 @@ pub const FORMATS: &[Format] = &[
         help: WORDS,
         suffix: None,
         head: Head::None,
-        read: |bytes, asked, rows| {
-            let [width, height] = asked.sides();
-            read_evt3(bytes, width, height, rows)
-        },
+        read: |bytes, asked, rows| read_evt3(bytes, side(asked.width), side(asked.height), rows),
         wrap: Some(EVT3_WRAP),
         most_rows: |bytes| (bytes / 2).saturating_mul(12),
         first_rows: |bytes| bytes / 2,
@@ -221,6 +217,6 @@ pub fn listed(names: impl Iterator<Item: Display>, before: &str, joint: &str) ->
 }
 
 /// Such names in capitals, as sentences have them: `DAT or AEDAT`.
-pub fn capitals(names: impl Iterator<Item = &'static str>, joint: &str) -> String {
-    listed(names.map(str::to_ascii_uppercase), "", joint)
+pub fn capitals(names: impl Iterator<Item = &'static str>) -> String {
+    listed(names.map(str::to_ascii_uppercase), "", "or")
 }

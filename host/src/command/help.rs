@@ -47,7 +47,7 @@ For example:
   ./fryskelom convert gate.aedat gate.evt2 --to evt2
 ",
         converting = converting(),
-        words = capitals(names_written(), "or"),
+        words = capitals(names_written()),
         formats = lines_of_formats(),
         bare = listed(bare(), "", "and"),
     )

@@ -207,9 +207,10 @@ pub fn compare_all<R: Reached>(reader: Reader, own: &[Family<R>]) {
 pub fn compare_longest<R: Reached>(readers: [Reader; 2]) {
     let mut bytes = vec![0u8; MOST_BYTES + 1];
     bytes[R::SIZE - 1] = 0x90;
+    let inputs = [(MOST_BYTES, LARGEST, 3), (MOST_BYTES, (0, 1), 14), (MOST_BYTES + 1, LARGEST, 1), (MOST_BYTES + 1, (0, 1), 1)];
     for reader in readers {
         let mut comparer = Comparer::<R>::new(reader);
-        for (length, picture, refusal) in [(MOST_BYTES, LARGEST, 3), (MOST_BYTES, (0, 1), 14), (MOST_BYTES + 1, LARGEST, 1), (MOST_BYTES + 1, (0, 1), 1)] {
+        for (length, picture, refusal) in inputs {
             let before = comparer.refused(refusal);
             comparer.compare_lent(&bytes[..length], picture, 25);
             assert_eq!(comparer.refused(refusal), before + 1, "{length} bytes were to be refused {refusal}");

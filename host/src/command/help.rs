@@ -13,7 +13,7 @@ fn converting() -> String {
 /// A line for each format, or for some that are alike.
 fn lines_of_formats() -> String {
     let alike = FORMATS.chunk_by(|format, next| format.help == next.help);
-    let lines = alike.map(|formats| format!("{:<21}{}", formats.iter().map(|format| format.name).collect::<Vec<_>>().join(", "), formats[0].help));
+    let lines = alike.map(|formats| format!("{:<20} {}", formats.iter().map(|format| format.name).collect::<Vec<_>>().join(", "), formats[0].help));
     lines.collect::<Vec<_>>().join("\n                    ")
 }
 
@@ -24,7 +24,7 @@ Reads recordings of event cameras.
 
   ./fryskelom info FILE                         what a recording holds: header, picture, numbers of events, times
   ./fryskelom rows FILE                         its events as rows of ten numbers, or with --events in words
-  ./fryskelom {converting:<34}writes a recording anew as {words} words
+  ./fryskelom {converting:<33} writes a recording anew as {words} words
   ./fryskelom refusals                          why a recording is refused, by number, and what to do
 
 FILE and IN are files, or - for standard input.

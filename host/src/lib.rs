@@ -8,18 +8,6 @@ use std::fmt;
 
 mod sys;
 
-/// Readers and writers made by hand for speed, which the benchmark times the library against. No part of the library uses them.
-#[doc(hidden)]
-pub mod fast;
-
-/// Made-up inputs for tests and the benchmark.
-#[doc(hidden)]
-pub mod samples;
-
-/// The independent implementation that tests compare with. No part of the library uses it.
-#[doc(hidden)]
-pub mod second;
-
 /// The longest input that is read, in bytes; a longer one is refused (1).
 pub const MOST_BYTES: usize = 1_073_741_824;
 
@@ -29,6 +17,9 @@ pub const MOST_ROWS: usize = 16_777_216;
 /// The most pixels that a side of a picture of EVT words has, and one of a DAT file.
 pub const EVT_SIDE: u32 = 2_048;
 pub const DAT_SIDE: u32 = 16_384;
+
+/// How many refusals there are; their numbers are those from 1 on.
+pub const REFUSALS: usize = 14;
 
 /// Why an input was refused: the number of the README's table.
 #[derive(Clone, Copy, Debug, PartialEq, Eq)]
@@ -124,18 +115,19 @@ pub fn event_of(row: &[u32]) -> Result<Event, Refusal> {
 /// Reads EVT2 words into rows of ten numbers, for a picture of `width` by `height` pixels, and answers how many rows there are.
 /// The buffer has room for a tenth of its length, rounded down; what follows the finished rows is left as it was.
 pub fn read_evt2(bytes: &[u8], width: u32, height: u32, rows: &mut [u32]) -> Result<usize, Fault> {
-    reading(evt2_numbers(bytes, width, height, rows))
+    read_words(sys::fry_read_evt2, bytes, width, height, rows)
 }
 
 /// Reads EVT3 words; all else is as in [`read_evt2`].
 pub fn read_evt3(bytes: &[u8], width: u32, height: u32, rows: &mut [u32]) -> Result<usize, Fault> {
-    reading(evt3_numbers(bytes, width, height, rows))
+    read_words(sys::fry_read_evt3, bytes, width, height, rows)
 }
 
 /// Reads the text header of a file whose format allows widths and heights from 1 to `limit`, which may be any number. A fault has no rows, and its place is the
 /// first byte of the line at fault.
 pub fn read_header(bytes: &[u8], limit: u32) -> Result<Header, Fault> {
-    let (refusal, place, width, height) = header_numbers(bytes, limit);
+    // SAFETY: as in `event_of`.
+    let sys::FryHeader { refusal, place, width, height } = unsafe { sys::fry_read_header(bytes.as_ptr(), bytes.len(), limit) };
     let place = place as usize;
     match refusal {
         0 => Ok(Header { data: place, width, height }),
@@ -146,40 +138,49 @@ pub fn read_header(bytes: &[u8], limit: u32) -> Result<Header, Fault> {
 /// Reads a RAW file of EVT2 words. Its header says how large the picture is, and a side that it leaves out has 2,048 pixels. Places count
 /// from the file's first byte; all else is as in [`read_evt2`].
 pub fn read_raw_evt2(bytes: &[u8], rows: &mut [u32]) -> Result<usize, Fault> {
-    reading(raw_evt2_numbers(bytes, rows))
+    read_file(sys::fry_read_raw_evt2, bytes, rows)
 }
 
 /// Reads a RAW file of EVT3 words; all else is as in [`read_raw_evt2`].
 pub fn read_raw_evt3(bytes: &[u8], rows: &mut [u32]) -> Result<usize, Fault> {
-    reading(raw_evt3_numbers(bytes, rows))
+    read_file(sys::fry_read_raw_evt3, bytes, rows)
 }
 
 /// Reads a DAT file. A side of its picture has at most 16,384 pixels, and so many where the header leaves it out; all else is as in
 /// [`read_raw_evt2`].
 pub fn read_dat(bytes: &[u8], rows: &mut [u32]) -> Result<usize, Fault> {
-    reading(dat_numbers(bytes, rows))
+    read_file(sys::fry_read_dat, bytes, rows)
 }
 
 /// Reads an AEDAT 3.1 file. It says nothing of a picture, so that x and y are any of 15 bits. Packets of frames, of nine-axis IMUs, of spikes
 /// and of private types are jumped. Places count from the file's first byte; rows are as in [`read_evt2`].
 pub fn read_aedat(bytes: &[u8], rows: &mut [u32]) -> Result<usize, Fault> {
-    reading(aedat_numbers(bytes, rows))
+    read_file(sys::fry_read_aedat, bytes, rows)
 }
 
 /// Writes a list of rows, ten numbers each, as EVT2 words of four bytes from the buffer's first byte on, and answers how many words
 /// there are: at most seven for a row. What follows them is left as it was, and all of the buffer where the list is refused.
 pub fn write_evt2(rows: &[u32], out: &mut [u8]) -> Result<usize, RowFault> {
-    writing(evt2_written(rows, out))
+    write_words(sys::fry_write_evt2, rows, out)
 }
 
 /// Writes a list of rows as EVT3 words of two bytes: at most four for a row, and two more for each wrap of the clock (16,777,216
 /// microseconds) up to the last row's time. All else is as in [`write_evt2`].
 pub fn write_evt3(rows: &[u32], out: &mut [u8]) -> Result<usize, RowFault> {
-    writing(evt3_written(rows, out))
+    write_words(sys::fry_write_evt3, rows, out)
 }
 
-/// A reader's three numbers, given a Rust type.
-fn reading((refusal, rows, place): (u64, u64, u64)) -> Result<usize, Fault> {
+fn read_words(reader: sys::WordReader, bytes: &[u8], width: u32, height: u32, rows: &mut [u32]) -> Result<usize, Fault> {
+    // SAFETY: pointers and lengths are those of two slices, which are not null and do not overlap.
+    reading(unsafe { reader(bytes.as_ptr(), bytes.len(), width, height, rows.as_mut_ptr(), rows.len()) })
+}
+
+fn read_file(reader: sys::FileReader, bytes: &[u8], rows: &mut [u32]) -> Result<usize, Fault> {
+    // SAFETY: as in `read_words`.
+    reading(unsafe { reader(bytes.as_ptr(), bytes.len(), rows.as_mut_ptr(), rows.len()) })
+}
+
+fn reading(sys::FryReading { refusal, rows, place }: sys::FryReading) -> Result<usize, Fault> {
     let (rows, place) = (rows as usize, place as usize);
     match refusal {
         0 => Ok(rows),
@@ -187,92 +188,12 @@ fn reading((refusal, rows, place): (u64, u64, u64)) -> Result<usize, Fault> {
     }
 }
 
-/// A writer's two numbers, given a Rust type.
-fn writing((refusal, count): (u64, u64)) -> Result<usize, RowFault> {
+fn write_words(writer: sys::WordWriter, rows: &[u32], out: &mut [u8]) -> Result<usize, RowFault> {
+    // SAFETY: as in `read_words`.
+    let sys::FryWriting { refusal, count } = unsafe { writer(rows.as_ptr(), rows.len(), out.as_mut_ptr(), out.len()) };
+    let count = count as usize;
     match refusal {
-        0 => Ok(count as usize),
-        _ => Err(RowFault { refusal: Refusal(refusal), row: count as usize }),
+        0 => Ok(count),
+        _ => Err(RowFault { refusal: Refusal(refusal), row: count }),
     }
-}
-
-/// All that `fry_read_evt2` answers, refused or not: the refusal, the finished rows and the place.
-#[doc(hidden)]
-pub fn evt2_numbers(bytes: &[u8], width: u32, height: u32, rows: &mut [u32]) -> (u64, u64, u64) {
-    reading_numbers(sys::fry_read_evt2, bytes, width, height, rows)
-}
-
-/// All that `fry_read_evt3` answers, as `evt2_numbers` has it.
-#[doc(hidden)]
-pub fn evt3_numbers(bytes: &[u8], width: u32, height: u32, rows: &mut [u32]) -> (u64, u64, u64) {
-    reading_numbers(sys::fry_read_evt3, bytes, width, height, rows)
-}
-
-fn reading_numbers(reader: sys::WordReader, bytes: &[u8], width: u32, height: u32, rows: &mut [u32]) -> (u64, u64, u64) {
-    // SAFETY: pointers and lengths are those of two slices, which are not null and do not overlap.
-    let reading = unsafe { reader(bytes.as_ptr(), bytes.len(), width, height, rows.as_mut_ptr(), rows.len()) };
-    (reading.refusal, reading.rows, reading.place)
-}
-
-/// All that `fry_read_header` answers, refused or not: the refusal, the place, the width and the height.
-#[doc(hidden)]
-pub fn header_numbers(bytes: &[u8], limit: u32) -> (u64, u64, u32, u32) {
-    // SAFETY: as in `event_of`.
-    let header = unsafe { sys::fry_read_header(bytes.as_ptr(), bytes.len(), limit) };
-    (header.refusal, header.place, header.width, header.height)
-}
-
-/// All that `fry_read_raw_evt2` answers, as `evt2_numbers` has it.
-#[doc(hidden)]
-pub fn raw_evt2_numbers(bytes: &[u8], rows: &mut [u32]) -> (u64, u64, u64) {
-    file_numbers(sys::fry_read_raw_evt2, bytes, rows)
-}
-
-/// All that `fry_read_raw_evt3` answers, as `evt2_numbers` has it.
-#[doc(hidden)]
-pub fn raw_evt3_numbers(bytes: &[u8], rows: &mut [u32]) -> (u64, u64, u64) {
-    file_numbers(sys::fry_read_raw_evt3, bytes, rows)
-}
-
-/// All that `fry_read_dat` answers, as `evt2_numbers` has it.
-#[doc(hidden)]
-pub fn dat_numbers(bytes: &[u8], rows: &mut [u32]) -> (u64, u64, u64) {
-    file_numbers(sys::fry_read_dat, bytes, rows)
-}
-
-/// All that `fry_read_aedat` answers, as `evt2_numbers` has it.
-#[doc(hidden)]
-pub fn aedat_numbers(bytes: &[u8], rows: &mut [u32]) -> (u64, u64, u64) {
-    file_numbers(sys::fry_read_aedat, bytes, rows)
-}
-
-fn file_numbers(reader: sys::FileReader, bytes: &[u8], rows: &mut [u32]) -> (u64, u64, u64) {
-    // SAFETY: as in `reading_numbers`.
-    let reading = unsafe { reader(bytes.as_ptr(), bytes.len(), rows.as_mut_ptr(), rows.len()) };
-    (reading.refusal, reading.rows, reading.place)
-}
-
-/// All that `fry_write_evt2` answers: 0 and the number of words, or the refusal and the index of a row.
-#[doc(hidden)]
-pub fn evt2_written(rows: &[u32], out: &mut [u8]) -> (u64, u64) {
-    writing_numbers(sys::fry_write_evt2, rows, out)
-}
-
-/// All that `fry_write_evt3` answers, as `evt2_written` has it.
-#[doc(hidden)]
-pub fn evt3_written(rows: &[u32], out: &mut [u8]) -> (u64, u64) {
-    writing_numbers(sys::fry_write_evt3, rows, out)
-}
-
-fn writing_numbers(writer: sys::WordWriter, rows: &[u32], out: &mut [u8]) -> (u64, u64) {
-    // SAFETY: as in `reading_numbers`.
-    let writing = unsafe { writer(rows.as_ptr(), rows.len(), out.as_mut_ptr(), out.len()) };
-    (writing.refusal, writing.count)
-}
-
-/// All that `fry_event_of` answers, refused or not: the refusal, kind, time, data and the bits of the readings.
-#[doc(hidden)]
-pub fn event_numbers(row: &[u32]) -> (u64, u64, u64, [u32; 7], [u32; 7]) {
-    // SAFETY: as in `event_of`.
-    let event = unsafe { sys::fry_event_of(row.as_ptr(), row.len()) };
-    (event.refusal, event.kind, event.time, event.data, event.readings.map(f32::to_bits))
 }

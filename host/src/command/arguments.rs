@@ -1,5 +1,5 @@
 //! What the command line asks for: which command, of which recording, with which options.
-use super::formats::{suffix, Asked, Format};
+use super::formats::{bare, capitals, in_raw_files, listed, names, names_written, suffix, suffixes, written, Asked, Format, Head, Words};
 use super::options::{Given, Syntax};
 use super::{help, refusals, Failure};
 use std::ffi::{OsStr, OsString};
@@ -11,47 +11,44 @@ pub enum Request {
     Info(Source),
     /// True asks for events that a person can read.
     Rows(Source, bool),
-    Convert(Source, Words, OsString),
+    Convert(Source, Target, OsString),
 }
 
-/// A recording's file, `-` for standard input, and its format.
+/// A recording's file, `-` for standard input, its format, and the picture where it was asked.
 pub struct Source {
     pub path: OsString,
-    pub format: Format,
+    pub format: &'static Format,
+    pub asked: Asked,
 }
 
-/// The words that can be written.
-#[derive(Clone, Copy)]
-pub enum Words {
-    Evt2,
-    Evt3,
-}
+/// The name of a format, and how it is written.
+pub type Target = (&'static str, &'static Words);
 
 struct Command {
     syntax: Syntax,
-    help: &'static str,
+    help: fn() -> String,
     request: fn(Given) -> Result<Request, String>,
 }
 
 const COMMANDS: [Command; 4] = [
     Command {
         syntax: Syntax { name: "info", arguments: &["FILE"], switches: &[], options: &["--format", "--width", "--height"] },
-        help: help::INFO,
+        help: || help::INFO.to_string(),
         request: |given| Ok(Request::Info(source(&given)?)),
     },
     Command {
         syntax: Syntax { name: "rows", arguments: &["FILE"], switches: &["--events"], options: &["--format", "--width", "--height"] },
-        help: help::ROWS,
+        help: || help::ROWS.to_string(),
         request: |given| Ok(Request::Rows(source(&given)?, given.value("--events").is_some())),
     },
     Command {
         syntax: Syntax { name: "convert", arguments: &["IN", "OUT"], switches: &[], options: &["--format", "--width", "--height", "--to"] },
-        help: help::CONVERT,
-        request: |given| Ok(Request::Convert(source(&given)?, words(&given)?, out(&given)?)),
+        help: help::convert,
+        request: |given| Ok(Request::Convert(source(&given)?, target(&given)?, out(&given)?)),
     },
     Command {
         syntax: Syntax { name: "refusals", arguments: &[], switches: &[], options: &[] },
-        help: help::REFUSALS,
+        help: || help::REFUSALS.to_string(),
         request: |_| Ok(Request::Print(refusals::table())),
     },
 ];
@@ -59,7 +56,7 @@ const COMMANDS: [Command; 4] = [
 /// What the command line asks for.
 pub fn request(line: &[OsString]) -> Result<Request, Failure> {
     let Some((first, rest)) = line.split_first() else {
-        return Err(Failure::Usage(help::SHORT.to_string()));
+        return Err(Failure::Usage(help::short()));
     };
     match first.to_str() {
         Some("--help" | "-h" | "help") => help_of(rest),
@@ -73,8 +70,8 @@ pub fn request(line: &[OsString]) -> Result<Request, Failure> {
 /// The help of all, or of one command.
 fn help_of(rest: &[OsString]) -> Result<Request, String> {
     match rest {
-        [] => Ok(Request::Print(help::ALL.to_string())),
-        [name] => Ok(Request::Print(command(name)?.help.to_string())),
+        [] => Ok(Request::Print(help::all())),
+        [name] => Ok(Request::Print((command(name)?.help)())),
         _ => Err("help is given for one command at a time".to_string()),
     }
 }
@@ -89,7 +86,7 @@ impl Command {
     fn asked(&self, line: &[OsString]) -> Result<Request, String> {
         let given = self.syntax.given(line)?;
         match given.help {
-            true => Ok(Request::Print(self.help.to_string())),
+            true => Ok(Request::Print((self.help)())),
             false => (self.request)(given),
         }
     }
@@ -100,14 +97,13 @@ fn source(given: &Given) -> Result<Source, String> {
     let path = given.arguments[0].clone();
     let asked = Asked { width: side(given, "--width")?, height: side(given, "--height")? };
     let format = match given.value("--format") {
-        Some(name) => Format::named(name, asked).ok_or_else(|| format!("--format {name}: there is no such format; {FORMATS}"))?,
+        Some(name) => Format::named(name).ok_or_else(|| format!("--format {name}: there is no such format; {}", naming()))?,
         None => Format::by_suffix(&path).ok_or_else(|| unknown_format(&path))?,
     };
-    match format {
-        Format::Evt2(_) | Format::Evt3(_) => Ok(Source { path, format }),
-        _ if asked.width.is_none() && asked.height.is_none() => Ok(Source { path, format }),
-        _ => Err(format!("--width and --height go with --format evt2 and --format evt3 alone: {PICTURES}")),
+    if format.head != Head::None && (asked.width.is_some() || asked.height.is_some()) {
+        return Err(format!("--width and --height go with {} alone: {PICTURES}", listed(bare(), "--format ", "and")));
     }
+    Ok(Source { path, format, asked })
 }
 
 /// The pixels of a side; whether there are such pictures is for the library to say.
@@ -122,34 +118,48 @@ fn side(given: &Given, name: &str) -> Result<Option<u32>, String> {
 }
 
 const PICTURES: &str = "a RAW or DAT file says its picture itself, and an AEDAT file has none";
-const FORMATS: &str = "name evt2, evt3, raw-evt2, raw-evt3, dat or aedat";
+
+/// What to name for a format.
+fn naming() -> String {
+    format!("name {}", listed(names(), "", "or"))
+}
 
 /// How to name a format that the file's name does not tell.
 fn unknown_format(path: &OsStr) -> String {
     let name = path.display();
     match suffix(path).as_deref() {
         Some("raw") => format!(
-            "{name}: a RAW file holds EVT2 or EVT3 words, and you say which: --format raw-evt2 or --format raw-evt3 \
-             (a line such as `% evt 3.0` among the first lines of the file usually tells)"
+            "{name}: a RAW file holds {} words, and you say which: {} \
+             (a line such as `% evt 3.0` among the first lines of the file usually tells)",
+            capitals(in_raw_files()),
+            listed(in_raw_files(), "--format raw-", "or")
         ),
-        _ => format!("{name}: its format is needed, as in --format evt3; {FORMATS} (only names that end in .dat or .aedat tell it)"),
+        _ => format!(
+            "{name}: its format is needed, as in --format evt3; {} (only names that end in {} tell it)",
+            naming(),
+            listed(suffixes(), ".", "or")
+        ),
     }
 }
 
-fn words(given: &Given) -> Result<Words, String> {
-    match given.value("--to") {
-        Some("evt2") => Ok(Words::Evt2),
-        Some("evt3") => Ok(Words::Evt3),
-        Some(other) => Err(format!("--to {other}: there are no such words; name evt2 or evt3")),
-        None => Err("convert needs --to evt2 or --to evt3".to_string()),
-    }
+fn target(given: &Given) -> Result<Target, String> {
+    let Some(to) = given.value("--to") else {
+        return Err(format!("convert needs {}", listed(names_written(), "--to ", "or")));
+    };
+    let unknown = || format!("--to {to}: there are no such words; name {}", listed(names_written(), "", "or"));
+    written().find(|(name, _)| *name == to).ok_or_else(unknown)
 }
 
 /// The file to write. Its name must not tell another format than it has.
 fn out(given: &Given) -> Result<OsString, String> {
     let path = &given.arguments[1];
     match Format::by_suffix(path) {
-        Some(_) => Err(format!("{}: by this name bare words would later be taken for a DAT or AEDAT file; end it in .evt2 or .evt3", path.display())),
+        Some(_) => Err(format!(
+            "{}: by this name bare words would later be taken for a {} file; end it in {}",
+            path.display(),
+            capitals(suffixes()),
+            listed(names_written(), ".", "or")
+        )),
         None => Ok(path.clone()),
     }
 }

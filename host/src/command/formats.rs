@@ -1,107 +1,222 @@
-//! The formats that a recording can have, and the library's reader of each.
-use fryskelom::{read_aedat, read_dat, read_evt2, read_evt3, read_raw_evt2, read_raw_evt3, Fault, EVT_SIDE};
+//! The formats that a recording can have. What the command knows of a format stands in its entry of the table, and nowhere else.
+use fryskelom::{
+    read_aedat, read_dat, read_evt2, read_evt3, read_raw_evt2, read_raw_evt3, write_evt2, write_evt3, Fault, RowFault, DAT_SIDE, EVT_SIDE,
+};
 use std::ffi::OsStr;
+use std::fmt::Display;
 use std::path::Path;
 
-/// Microseconds from one wrap of the EVT3 clock to the next.
-pub const EVT3_WRAP: u64 = 16_777_216;
+pub struct Format {
+    /// The name of `--format`, and of `--to` where it is written. That of a RAW file is `raw-` and the name of its words.
+    pub name: &'static str,
+    /// What it is called in a sentence.
+    pub title: &'static str,
+    /// What the help says of it. Neighbours that have the same help share a line.
+    pub help: &'static str,
+    /// The suffix that tells it.
+    suffix: Option<&'static str>,
+    pub head: Head,
+    /// The library's reading.
+    pub read: Read,
+    /// Microseconds from one wrap of its clock to the next, where its clock wraps.
+    pub wrap: Option<u64>,
+    /// As many rows as so many bytes can give.
+    pub most_rows: fn(usize) -> usize,
+    /// As many rows as there is room for at first.
+    pub first_rows: fn(usize) -> usize,
+    /// How it is written, where it is.
+    words: Option<Words>,
+}
+
+/// Reads bytes into rows. What was asked of the picture counts for bare words alone.
+type Read = fn(&[u8], Asked, &mut [u32]) -> Result<usize, Fault>;
+
+/// What stands before the data, and says how large the picture is.
+#[derive(Clone, Copy, PartialEq)]
+pub enum Head {
+    /// Bare words have none.
+    None,
+    /// A text header, of a picture whose sides have at most so many pixels.
+    Text(u32),
+    /// The lines of an AEDAT file, which has no picture.
+    Aedat,
+}
 
 /// The picture that was asked for bare words, which do not say it themselves.
-#[derive(Clone, Copy, Default)]
+#[derive(Clone, Copy)]
 pub struct Asked {
     pub width: Option<u32>,
     pub height: Option<u32>,
 }
 
-#[derive(Clone, Copy)]
-pub enum Format {
-    Evt2(Asked),
-    Evt3(Asked),
-    RawEvt2,
-    RawEvt3,
-    Dat,
-    Aedat,
+/// The pixels of a side that was asked or left out.
+fn side(asked: Option<u32>) -> u32 {
+    asked.unwrap_or(EVT_SIDE)
 }
+
+/// How a format of bare words is written.
+pub struct Words {
+    /// What the help says of the rows that it holds.
+    pub holds: &'static str,
+    /// The bytes of a word.
+    pub size: usize,
+    /// As many words as are always enough for so many rows, the last of them at this time.
+    pub most: fn(usize, u64) -> usize,
+    /// The library's writing.
+    pub write: fn(&[u32], &mut [u8]) -> Result<usize, RowFault>,
+}
+
+/// Microseconds from one wrap of the EVT3 clock to the next.
+const EVT3_WRAP: u64 = 16_777_216;
+
+const WORDS: &str = "bare words";
+const RAW: &str = "a RAW file of such words: a line such as `% evt 3.0` among its first lines usually tells which";
+const TOLD: &str = "a DAT file, an AEDAT 3.1 file: not needed where the name ends in .dat or .aedat";
+
+/// An EVT2 word gives at most one row, an EVT3 word twelve, though seldom more than one on the whole, and eight bytes of a DAT or AEDAT file one.
+pub const FORMATS: &[Format] = &[
+    Format {
+        name: "evt2",
+        title: "EVT2 words",
+        help: WORDS,
+        suffix: None,
+        head: Head::None,
+        read: |bytes, asked, rows| read_evt2(bytes, side(asked.width), side(asked.height), rows),
+        wrap: None,
+        most_rows: |bytes| bytes / 4,
+        first_rows: |bytes| bytes / 4,
+        words: Some(Words {
+            holds: "pixels below 2048 by 2048, triggers of channels 0 to 31 and IMU counts",
+            size: 4,
+            most: |rows, _| 7 * rows,
+            write: write_evt2,
+        }),
+    },
+    Format {
+        name: "evt3",
+        title: "EVT3 words",
+        help: WORDS,
+        suffix: None,
+        head: Head::None,
+        read: |bytes, asked, rows| read_evt3(bytes, side(asked.width), side(asked.height), rows),
+        wrap: Some(EVT3_WRAP),
+        most_rows: |bytes| (bytes / 2).saturating_mul(12),
+        first_rows: |bytes| bytes / 2,
+        words: Some(Words {
+            holds: "pixels below 2048 by 2048 and triggers of channels 0 to 15",
+            size: 2,
+            most: |rows, last| 4 * rows + 2 * (last / EVT3_WRAP) as usize,
+            write: write_evt3,
+        }),
+    },
+    Format {
+        name: "raw-evt2",
+        title: "RAW file of EVT2 words",
+        help: RAW,
+        suffix: None,
+        head: Head::Text(EVT_SIDE),
+        read: |bytes, _, rows| read_raw_evt2(bytes, rows),
+        wrap: None,
+        most_rows: |bytes| bytes / 4,
+        first_rows: |bytes| bytes / 4,
+        words: None,
+    },
+    Format {
+        name: "raw-evt3",
+        title: "RAW file of EVT3 words",
+        help: RAW,
+        suffix: None,
+        head: Head::Text(EVT_SIDE),
+        read: |bytes, _, rows| read_raw_evt3(bytes, rows),
+        wrap: Some(EVT3_WRAP),
+        most_rows: |bytes| (bytes / 2).saturating_mul(12),
+        first_rows: |bytes| bytes / 2,
+        words: None,
+    },
+    Format {
+        name: "dat",
+        title: "DAT file",
+        help: TOLD,
+        suffix: Some("dat"),
+        head: Head::Text(DAT_SIDE),
+        read: |bytes, _, rows| read_dat(bytes, rows),
+        wrap: None,
+        most_rows: |bytes| bytes / 8,
+        first_rows: |bytes| bytes / 8,
+        words: None,
+    },
+    Format {
+        name: "aedat",
+        title: "AEDAT 3.1 file",
+        help: TOLD,
+        suffix: Some("aedat"),
+        head: Head::Aedat,
+        read: |bytes, _, rows| read_aedat(bytes, rows),
+        wrap: None,
+        most_rows: |bytes| bytes / 8,
+        first_rows: |bytes| bytes / 8,
+        words: None,
+    },
+];
 
 impl Format {
     /// The format of a name of `--format`.
-    pub fn named(name: &str, asked: Asked) -> Option<Format> {
-        let formats = [Format::Evt2(asked), Format::Evt3(asked), Format::RawEvt2, Format::RawEvt3, Format::Dat, Format::Aedat];
-        formats.into_iter().find(|format| format.name() == name)
+    pub fn named(name: &str) -> Option<&'static Format> {
+        FORMATS.iter().find(|format| format.name == name)
     }
 
     /// The format that the suffix of a file's name tells.
-    pub fn by_suffix(path: &OsStr) -> Option<Format> {
-        match suffix(path)?.as_str() {
-            "dat" => Some(Format::Dat),
-            "aedat" => Some(Format::Aedat),
-            _ => None,
-        }
-    }
-
-    pub fn name(self) -> &'static str {
-        match self {
-            Format::Evt2(_) => "evt2",
-            Format::Evt3(_) => "evt3",
-            Format::RawEvt2 => "raw-evt2",
-            Format::RawEvt3 => "raw-evt3",
-            Format::Dat => "dat",
-            Format::Aedat => "aedat",
-        }
-    }
-
-    /// What the format is called in a sentence.
-    pub fn title(self) -> &'static str {
-        match self {
-            Format::Evt2(_) => "EVT2 words",
-            Format::Evt3(_) => "EVT3 words",
-            Format::RawEvt2 => "RAW file of EVT2 words",
-            Format::RawEvt3 => "RAW file of EVT3 words",
-            Format::Dat => "DAT file",
-            Format::Aedat => "AEDAT 3.1 file",
-        }
-    }
-
-    /// Microseconds from one wrap of the format's clock to the next, where its clock wraps.
-    pub fn wrap(self) -> Option<u64> {
-        match self {
-            Format::Evt3(_) | Format::RawEvt3 => Some(EVT3_WRAP),
-            _ => None,
-        }
-    }
-
-    /// The library's reading.
-    pub fn read(self, bytes: &[u8], rows: &mut [u32]) -> Result<usize, Fault> {
-        let side = |asked: Option<u32>| asked.unwrap_or(EVT_SIDE);
-        match self {
-            Format::Evt2(asked) => read_evt2(bytes, side(asked.width), side(asked.height), rows),
-            Format::Evt3(asked) => read_evt3(bytes, side(asked.width), side(asked.height), rows),
-            Format::RawEvt2 => read_raw_evt2(bytes, rows),
-            Format::RawEvt3 => read_raw_evt3(bytes, rows),
-            Format::Dat => read_dat(bytes, rows),
-            Format::Aedat => read_aedat(bytes, rows),
-        }
-    }
-
-    /// As many rows as so many bytes can give: an EVT2 word one, an EVT3 word twelve, an event of DAT or AEDAT one.
-    pub fn most_rows(self, bytes: usize) -> usize {
-        match self {
-            Format::Evt2(_) | Format::RawEvt2 => bytes / 4,
-            Format::Evt3(_) | Format::RawEvt3 => (bytes / 2).saturating_mul(12),
-            Format::Dat | Format::Aedat => bytes / 8,
-        }
-    }
-
-    /// As many rows as there is room for at first: recordings of EVT3 words seldom have more than a row for a word.
-    pub fn first_rows(self, bytes: usize) -> usize {
-        match self {
-            Format::Evt3(_) | Format::RawEvt3 => bytes / 2,
-            _ => self.most_rows(bytes),
-        }
+    pub fn by_suffix(path: &OsStr) -> Option<&'static Format> {
+        let suffix = suffix(path)?;
+        FORMATS.iter().find(|format| format.suffix == Some(&suffix))
     }
 }
 
 /// What follows the last point of a file's name, in small letters.
 pub fn suffix(path: &OsStr) -> Option<String> {
     Some(Path::new(path).extension()?.to_str()?.to_ascii_lowercase())
+}
+
+/// The names of all formats.
+pub fn names() -> impl Iterator<Item = &'static str> {
+    FORMATS.iter().map(|format| format.name)
+}
+
+/// The names of the formats of bare words.
+pub fn bare() -> impl Iterator<Item = &'static str> {
+    FORMATS.iter().filter(|format| format.head == Head::None).map(|format| format.name)
+}
+
+/// The names of the words that RAW files hold.
+pub fn in_raw_files() -> impl Iterator<Item = &'static str> {
+    names().filter_map(|name| name.strip_prefix("raw-"))
+}
+
+/// The suffixes that tell a format.
+pub fn suffixes() -> impl Iterator<Item = &'static str> {
+    FORMATS.iter().filter_map(|format| format.suffix)
+}
+
+/// The formats that are written: the name of each, and how.
+pub fn written() -> impl Iterator<Item = (&'static str, &'static Words)> {
+    FORMATS.iter().filter_map(|format| Some((format.name, format.words.as_ref()?)))
+}
+
+/// Their names.
+pub fn names_written() -> impl Iterator<Item = &'static str> {
+    written().map(|(name, _)| name)
+}
+
+/// Names in a sentence, each with the same before it: `.dat or .aedat`.
+pub fn listed(names: impl Iterator<Item: Display>, before: &str, joint: &str) -> String {
+    let mut names: Vec<String> = names.map(|name| format!("{before}{name}")).collect();
+    match names.pop() {
+        Some(last) if !names.is_empty() => format!("{} {joint} {last}", names.join(", ")),
+        last => last.unwrap_or_default(),
+    }
+}
+
+/// Such names in capitals, as sentences have them: `DAT or AEDAT`.
+pub fn capitals(names: impl Iterator<Item = &'static str>) -> String {
+    listed(names.map(str::to_ascii_uppercase), "", "or")
 }

@@ -1,7 +1,7 @@
 //! What `info` says of a recording's header and picture. Where lines end and what they say is the library's answer.
-use super::formats::{Asked, Format};
+use super::formats::{Asked, Head};
 use super::recording::{Recording, Stop};
-use fryskelom::{read_header, Header, DAT_SIDE, EVT_SIDE, MOST_BYTES};
+use fryskelom::{read_header, Header, EVT_SIDE, MOST_BYTES};
 
 /// The last line of the header of an AEDAT file.
 const AEDAT_END: &[u8] = b"#!END-HEADER\r\n";
@@ -11,12 +11,11 @@ const SHOWN: usize = 256;
 
 /// Lines on the header and on the picture.
 pub fn lines(recording: &Recording, stop: Option<Stop>) -> Vec<String> {
-    match recording.format {
-        Format::Evt2(asked) | Format::Evt3(asked) => of_words(asked),
+    match recording.format.head {
+        Head::None => of_words(recording.asked),
         _ if recording.bytes.len() > MOST_BYTES => vec!["header: not read, since the file is too long".to_string(), "picture: not known".to_string()],
-        Format::RawEvt2 | Format::RawEvt3 => of_text(&recording.bytes, EVT_SIDE),
-        Format::Dat => of_text(&recording.bytes, DAT_SIDE),
-        Format::Aedat => of_aedat(&recording.bytes, stop),
+        Head::Text(side) => of_text(&recording.bytes, side),
+        Head::Aedat => of_aedat(&recording.bytes, stop),
     }
 }
 

@@ -1,21 +1,36 @@
-//! The help texts.
+//! The help texts. What they say of the formats is taken from the table.
+use super::formats::{bare, capitals, listed, names_written, written, FORMATS};
 
-pub const SHORT: &str = "usage: ./fryskelom info FILE, rows FILE, convert IN OUT --to evt2|evt3, or refusals";
+pub fn short() -> String {
+    format!("usage: ./fryskelom info FILE, rows FILE, {}, or refusals", converting())
+}
 
-pub const ALL: &str = "\
+/// How `convert` is called.
+fn converting() -> String {
+    format!("convert IN OUT --to {}", names_written().collect::<Vec<_>>().join("|"))
+}
+
+/// A line for each format, or for some that are alike.
+fn lines_of_formats() -> String {
+    let alike = FORMATS.chunk_by(|format, next| format.help == next.help);
+    let lines = alike.map(|formats| format!("{:<20} {}", formats.iter().map(|format| format.name).collect::<Vec<_>>().join(", "), formats[0].help));
+    lines.collect::<Vec<_>>().join("\n                    ")
+}
+
+pub fn all() -> String {
+    format!(
+        "\
 Reads recordings of event cameras.
 
   ./fryskelom info FILE                         what a recording holds: header, picture, numbers of events, times
   ./fryskelom rows FILE                         its events as rows of ten numbers, or with --events in words
-  ./fryskelom convert IN OUT --to evt2|evt3     writes a recording anew as EVT2 or EVT3 words
+  ./fryskelom {converting:<33} writes a recording anew as {words} words
   ./fryskelom refusals                          why a recording is refused, by number, and what to do
 
 FILE and IN are files, or - for standard input.
 
-  --format FORMAT   evt2, evt3           bare words
-                    raw-evt2, raw-evt3   a RAW file of such words: a line such as `% evt 3.0` among its first lines usually tells which
-                    dat, aedat           a DAT file, an AEDAT 3.1 file: not needed where the name ends in .dat or .aedat
-  --width N         with evt2 and evt3 alone: the picture's pixels, 1 to 2048; 2048 where left out
+  --format FORMAT   {formats}
+  --width N         with {bare} alone: the picture's pixels, 1 to 2048; 2048 where left out
   --height N        likewise
   --help, -h        this text, or after a command its own
   --version         the version
@@ -30,7 +45,13 @@ For example:
   ./fryskelom info gate.dat
   ./fryskelom rows --events gate.raw --format raw-evt3
   ./fryskelom convert gate.aedat gate.evt2 --to evt2
-";
+",
+        converting = converting(),
+        words = capitals(names_written()),
+        formats = lines_of_formats(),
+        bare = listed(bare(), "", "and"),
+    )
+}
 
 pub const INFO: &str = "\
 ./fryskelom info FILE [--format FORMAT] [--width N] [--height N]
@@ -64,18 +85,22 @@ If the recording is refused, the rows before are printed; the refusal follows on
 For FORMAT and N see ./fryskelom --help.
 ";
 
-pub const CONVERT: &str = "\
-./fryskelom convert IN OUT --to evt2|evt3 [--format FORMAT] [--width N] [--height N]
+pub fn convert() -> String {
+    let held: String = written().map(|(name, words)| format!("  --to {name:<11}holds {}\n", words.holds)).collect();
+    format!(
+        "\
+./fryskelom {} [--format FORMAT] [--width N] [--height N]
 
 Reads the recording IN and writes its rows as bare words, without a header, to the file OUT, or to standard output where OUT is -.
 FORMAT and N are those of IN; see ./fryskelom --help. OUT is written whole or not at all: where IN is refused or a row cannot be written,
 OUT stays as it was.
 
-  --to evt2       holds pixels below 2048 by 2048, triggers of channels 0 to 31 and IMU counts
-  --to evt3       holds pixels below 2048 by 2048 and triggers of channels 0 to 15
-
+{held}
 The rows have to be in the order of time, and at most 16777216.
-";
+",
+        converting()
+    )
+}
 
 pub const REFUSALS: &str = "\
 ./fryskelom refusals

@@ -25,7 +25,7 @@ fn about_file(recording: &Recording) -> Vec<String> {
     };
     vec![
         format!("file: {}", recording.name),
-        format!("format: {} ({})", recording.format.title(), recording.format.name()),
+        format!("format: {} ({})", recording.format.title, recording.format.name),
         format!("size: {size} bytes"),
     ]
 }
@@ -36,7 +36,7 @@ fn about_rows(recording: &Recording, reading: &Reading) -> Vec<String> {
     let mut lines = vec![format!("events: {}{part}", reading.rows())];
     lines.extend(KINDS.iter().zip(summary.kinds).map(|(kind, events)| format!("    {kind}: {events}")));
     lines.extend(summary.times());
-    lines.extend(recording.format.wrap().map(|wrap| summary.wraps(wrap)));
+    lines.extend(recording.format.wrap.map(|wrap| summary.wraps(wrap)));
     lines
 }
 

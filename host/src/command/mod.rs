@@ -51,6 +51,6 @@ fn carry_out(request: Request) -> Result<(), Failure> {
         Request::Print(text) => output::write(text.as_bytes()),
         Request::Info(source) => info::print(&source),
         Request::Rows(source, as_events) => rows::print(&source, as_events),
-        Request::Convert(source, words, out) => convert::convert(&source, words, &out),
+        Request::Convert(source, target, out) => convert::convert(&source, target, &out),
     }
 }

@@ -1,6 +1,6 @@
 //! A recording: the bytes of its file, and the rows that the library reads from them.
 use super::arguments::Source;
-use super::formats::Format;
+use super::formats::{Asked, Format};
 use super::memory::{zeros, Lack};
 use super::progress::Progress;
 use super::{refusals, Failure};
@@ -18,7 +18,8 @@ const SPARE: usize = 8 << 20;
 pub struct Recording {
     /// What messages call it.
     pub name: String,
-    pub format: Format,
+    pub format: &'static Format,
+    pub asked: Asked,
     pub bytes: Vec<u8>,
 }
 
@@ -40,7 +41,7 @@ pub enum Stop {
 impl Recording {
     /// Reads a file, or standard input, into memory.
     pub fn load(source: &Source, progress: &mut Progress) -> Result<Recording, Failure> {
-        let mut recording = Recording { name: name_of(source), format: source.format, bytes: vec![] };
+        let mut recording = Recording { name: name_of(source), format: source.format, asked: source.asked, bytes: vec![] };
         if source.path == "-" {
             recording.fill(io::stdin().lock(), 0, progress)?;
         } else {
@@ -84,10 +85,10 @@ impl Recording {
             Ok(spare) => black_box(spare),
             Err(lack) => return Reading { numbers: vec![], rows: 0, stop: Some(Stop::Full(lack)) },
         };
-        let most = self.format.most_rows(self.bytes.len());
-        let mut numbers = largest(self.format.first_rows(self.bytes.len()));
+        let most = (self.format.most_rows)(self.bytes.len());
+        let mut numbers = largest((self.format.first_rows)(self.bytes.len()));
         loop {
-            let fault = match self.format.read(&self.bytes, &mut numbers) {
+            let fault = match (self.format.read)(&self.bytes, self.asked, &mut numbers) {
                 Ok(rows) => return Reading { numbers, rows, stop: None },
                 Err(fault) => fault,
             };

@@ -1,6 +1,6 @@
-//! The fourteen refusals in plain words, and the messages that are made of them.
+//! The refusals in plain words, and the messages that are made of them.
 use super::events;
-use fryskelom::{Fault, Refusal, RowFault, MOST_ROWS};
+use fryskelom::{Fault, Refusal, RowFault, MOST_ROWS, REFUSALS};
 
 /// What was found, and what to do where a recording is read and where rows are written; empty where it is not refused so.
 struct Rule {
@@ -9,7 +9,8 @@ struct Rule {
     writing: &'static str,
 }
 
-const RULES: [Rule; 14] = [
+/// By number, from 1 on.
+const RULES: [Rule; REFUSALS] = [
     Rule { found: "the input is longer than 1073741824 bytes", reading: "split the recording, or record in shorter parts", writing: "" },
     Rule {
         found: "rows or bytes do not fit the buffer",

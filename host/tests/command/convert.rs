@@ -1,11 +1,11 @@
 //! `convert`: what is written, what it reads back as, and that nothing is left where it fails.
 use super::inputs::{self, evt2_words, evt3_words, EVT3_ROWS};
 use super::run::{files, folder, run, run_after, run_fed, run_on};
-use fryskelom::samples::{aedat, dat, evt2, evt3, Numbers};
 use std::fs;
 use std::os::unix::fs::symlink;
 use std::path::{Path, PathBuf};
 use std::process::Command;
+use trials::samples::{aedat, dat, evt2, evt3, Numbers};
 
 #[test]
 fn reading_back() {

@@ -1,7 +1,7 @@
 //! `info`: all of its text, for every format.
 use super::inputs;
 use super::run::{folder, run_on};
-use fryskelom::samples::evt3;
+use trials::samples::evt3;
 
 const EVT2: &str = "\
 file: recording

@@ -1,7 +1,7 @@
 //! Recordings of a few events, and what they hold.
-use fryskelom::samples::aedat::{imu6, packet, polarity, special, END, IMU6, POLARITY, SPECIAL, START};
-use fryskelom::samples::dat::{event, TYPE_AND_SIZE};
-use fryskelom::samples::{evt2, evt3};
+use trials::samples::aedat::{imu6, packet, polarity, special, END, IMU6, POLARITY, SPECIAL, START};
+use trials::samples::dat::{event, TYPE_AND_SIZE};
+use trials::samples::{evt2, evt3};
 
 /// EVT2 words: a USB packet before the clock, a pixel, a trigger and an IMU reading.
 pub fn evt2_words() -> Vec<u8> {

@@ -1,10 +1,10 @@
 //! Long recordings, little memory, and a standard output that takes no more.
 use super::run::{files, folder, run, run_after, run_on, Run, BINARY};
-use fryskelom::samples::{dat, evt3, Numbers};
 use std::fs::{self, File};
 use std::io::Read;
 use std::path::Path;
 use std::process::{Command, Stdio};
+use trials::samples::{dat, evt3, Numbers};
 
 /// A file of zeros: as EVT2 words pixels before the clock, which give no rows.
 fn zeros(folder: &Path, length: u64) {

@@ -1,16 +1,17 @@
 //! Every refusal that a reader or a writer can give, reached through the command.
 use super::inputs::{aedat, dat, evt3_words};
 use super::run::{folder, run, run_on};
-use fryskelom::samples::aedat::{packet, polarity, special, Packet, END, POLARITY, SPECIAL, START};
-use fryskelom::samples::recordings::RECORDINGS;
-use fryskelom::samples::{evt2, evt3};
+use fryskelom::REFUSALS;
+use trials::samples::aedat::{packet, polarity, special, Packet, END, POLARITY, SPECIAL, START};
+use trials::samples::recordings::RECORDINGS;
+use trials::samples::{evt2, evt3};
 
 #[test]
 fn the_table() {
     let table = run(&folder("table"), &["refusals"]).good();
     let numbers = table.text().lines().filter_map(|line| line.split_once("  ")?.0.trim().parse().ok());
-    assert_eq!(numbers.collect::<Vec<u32>>(), (1..=14).collect::<Vec<_>>());
-    assert_eq!(table.text().matches("    what to do").count(), 16, "one for each number, and another where rows are written, for 2 and 5");
+    assert_eq!(numbers.collect::<Vec<usize>>(), (1..=REFUSALS).collect::<Vec<_>>());
+    assert_eq!(table.text().matches("    what to do").count(), REFUSALS + 2, "one for each number, and another where rows are written, for 2 and 5");
 }
 
 /// README.md has the same numbers with the same words.
@@ -19,7 +20,7 @@ fn the_table_of_the_readme() {
     let table = run(&folder("readme"), &["refusals"]).good();
     let lines = table.text().lines().filter(|line| !line.starts_with("    "));
     let rows: Vec<_> = lines.filter_map(|line| line.trim().split_once("  ")).map(|(number, found)| format!("| {number} | {found} |")).collect();
-    assert_eq!(rows.len(), 14);
+    assert_eq!(rows.len(), REFUSALS);
     for row in rows {
         assert!(README.contains(&row), "README.md has no row {row}");
     }

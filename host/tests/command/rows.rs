@@ -1,11 +1,11 @@
 //! `rows`: the lines of every format, from files and from standard input.
 use super::inputs::{self, raw, RAW_HEADER};
 use super::run::{folder, run, run_fed, run_on};
-use fryskelom::samples::{aedat, dat, evt2, evt3, Numbers};
 use fryskelom::{read_aedat, read_dat, read_evt2, read_evt3, read_raw_evt2, read_raw_evt3, Fault};
 use std::ffi::OsStr;
 use std::fs;
 use std::os::unix::ffi::OsStrExt;
+use trials::samples::{aedat, dat, evt2, evt3, Numbers};
 
 #[test]
 fn rows_and_events_of_every_format() {

@@ -4,9 +4,10 @@ use super::run::{folder, Run, BINARY};
 use std::env;
 use std::fs::{self, File, FileTimes, Permissions};
 use std::os::unix::fs::{symlink, PermissionsExt};
-use std::path::{Path, PathBuf};
+use std::path::PathBuf;
 use std::process::Command;
 use std::time::{Duration, SystemTime};
+use trials::in_repository;
 
 const LIBRARY: &str = "target/staticlib/libfryskelom.a";
 const COMMAND: &str = "host/target/release/fryskelom";
@@ -42,7 +43,7 @@ struct Tree(PathBuf);
 impl Tree {
     fn new(name: &str) -> Tree {
         let tree = Tree(folder(name));
-        let script = fs::read_to_string(Path::new(env!("CARGO_MANIFEST_DIR")).join("../fryskelom")).expect("the script");
+        let script = fs::read_to_string(in_repository("fryskelom")).expect("the script");
         tree.program("the tree/fryskelom", &script);
         SOURCES.iter().for_each(|source| tree.file(&format!("the tree/{source}"), ""));
         [("rt", RT), ("cargo", CARGO), ("cc", CC)].iter().for_each(|(name, text)| tree.program(&format!("programs/{name}"), text));
@@ -115,6 +116,17 @@ fn what_is_older_than_its_sources_is_built_again() {
         assert_eq!(tree.rows().stderr, told, "{source}");
         // once, though it has come out the same
         assert_eq!(tree.rows().good().text(), DAT_ROWS);
+    }
+}
+
+#[test]
+fn a_newer_test_builds_nothing() {
+    let tree = Tree::new("script-tests");
+    tree.rows();
+    for test in ["host/tests/command.rs", "host/trials/src/lib.rs", "host/trials/Cargo.toml"] {
+        tree.file(&format!("the tree/{test}"), "");
+        tree.set_time(test, 60);
+        assert_eq!(tree.rows().good().text(), DAT_ROWS, "{test}");
     }
 }
 

@@ -1,7 +1,7 @@
 -- The laws of this crate, each proved in proofs/Kept.antt under the name in lower case.
 use mathlib.Core.Path.{_≡_}
 use Prim.Native.Nat.{ℕ, _%_, _≤_, _<_}
-use mathlib.Core.Bool.{false}
+use mathlib.Core.Bool.{true, false}
 use lib.Dec.{T}
 use lib.IntN.{pos, natAbs}
 use lib.Ieee.{Float, fin, binary32, fits, toBits, round}

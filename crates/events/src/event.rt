@@ -3,14 +3,14 @@ ghost use mathlib.Core.Path.{_≡_};
 ghost use mathlib.Core.Bool.{true};
 ghost use Rattle.rows.specs.Rules.{goodAs};
 ghost use Rattle.events.specs.Event.{countsEvent, singlesEvent, eventAs, eventOf, readingsOf, refusedNumbers, rowNumbers, eventNumbers};
-use rows::Fault;
 use crate::readings::acceleration;
 use crate::readings::rotation;
 use crate::readings::single;
+use rows::Fault;
+use rows::Kind;
 use rows::Row;
 use rows::RowAt;
 use rows::get;
-use rows::Kind;
 use rows::good;
 
 // The bits of an IMU's seven singles as they stand in the row. A NaN's payload is kept here alone.

@@ -17,9 +17,9 @@ ghost use Rattle.raw.specs.declared.reader.Format.the-variants.{Evt2, Evt3};
 ghost use Rattle.raw.specs.Reader as raw;
 ghost use Rattle.dat.specs.Reader as dat;
 ghost use Rattle.aedat.specs.Reader as aedat;
+use events::EventNumbers;
 use header::HeaderNumbers;
 use raw::Format;
-use events::EventNumbers;
 use rows::ReadingNumbers;
 use rows::WritingNumbers;
 

@@ -1,8 +1,8 @@
--- `cases::text::bits_of` meets its contract.
+-- `cases::calls::bits_of` meets its contract.
 use borrow.Author.Needs.{needs}
 use Rattle.cases.proofs.Singles.{number}
-use Rattle.cases.proofs.text.bits_of.Statement.{statement}
-use Rattle.cases.proofs.text.bits_of.Tie as tie
+use Rattle.cases.proofs.calls.bits_of.Statement.{statement}
+use Rattle.cases.proofs.calls.bits_of.Tie as tie
 
 returns : tie.Need-returns
 returns c = search needs

@@ -1,28 +1,28 @@
--- `cases::aedat_cases::put` meets its contract.
+-- `cases::data::narrow` meets its contract.
 use mathlib.Core.Path.{_≡_}
 use Prim.Native.Nat.{_-_, _≤_}
 use borrow.Author.Needs.{needs}
 use lib.ListN.{length}
-use Rattle.cases.proofs.aedat_cases.put.Statement.{statement}
-use Rattle.cases.proofs.aedat_cases.put.Tie as tie
+use Rattle.cases.proofs.data.narrow.Statement.{statement}
+use Rattle.cases.proofs.data.narrow.Tie as tie
 
 abbrev Inv-loop : tie.InvT-loop
-Inv-loop file₀ at bytes i₀ file i = (i ≤ length bytes) × (length file ≡ length file₀)
+Inv-loop list bytes₀ i₀ bytes i = (i ≤ length bytes₀) × (length bytes ≡ length bytes₀)
 
 abbrev μ-loop : tie.MeasureT-loop
-μ-loop file₀ at bytes i₀ file i = length bytes - i
+μ-loop list bytes₀ i₀ bytes i = length bytes₀ - i
 
 loop-holds : tie.Need-loop-holds Inv-loop μ-loop
 loop-holds c = search needs
 
-shared-slice-read-file : tie.Need-shared-slice-read-file Inv-loop μ-loop
-shared-slice-read-file c = search needs
+get-requires : tie.Need-get-requires Inv-loop μ-loop
+get-requires c κs = search needs
 
-add-file : tie.Need-add-file Inv-loop μ-loop
-add-file c = search needs
+cast-bytes : tie.Need-cast-bytes Inv-loop μ-loop
+cast-bytes c = search needs
 
-slice-write-file : tie.Need-slice-write-file Inv-loop μ-loop
-slice-write-file c = search needs
+slice-write-bytes : tie.Need-slice-write-bytes Inv-loop μ-loop
+slice-write-bytes c = search needs
 
 add-i : tie.Need-add-i Inv-loop μ-loop
 add-i c = search needs
@@ -39,16 +39,16 @@ same-length c = search needs
 returns : tie.Need-returns Inv-loop μ-loop
 returns c = search needs
 
-pub put-spec : {M : Type 1} → statement M
-put-spec =
+pub narrow-spec : {M : Type 1} → statement M
+narrow-spec =
     tie.close
     (tie.spec
     Inv-loop
     μ-loop
     loop-holds
-    shared-slice-read-file
-    add-file
-    slice-write-file
+    get-requires
+    cast-bytes
+    slice-write-bytes
     add-i
     loop-less
     loop-again

@@ -1,0 +1,308 @@
+// What a case calls, and what came back of it: a list of numbers, first those of the answer and then all of the lent buffer. The head of the
+// table says which numbers each call is given and which it answers.
+ghost use Prim.Native.Nat.{_≤_};
+use crate::data::put;
+use crate::data::put_low;
+use crate::data::widen;
+use crate::parts::least;
+use header::is_same;
+use raw::Format;
+use rows::EventNumbers;
+use rows::ReadingNumbers;
+use rows::Row;
+use rows::RowAt;
+use rows::WritingNumbers;
+
+pub(crate) enum Reader {
+    Evt2,
+    Evt3,
+    RawEvt2,
+    RawEvt3,
+    Dat,
+    Aedat,
+}
+
+pub(crate) enum Call {
+    Read(Reader),
+    // AEDAT packets after the three lines that every file has.
+    Packets,
+    Header,
+    Write2,
+    Write3,
+    Event,
+    Row,
+    Unknown,
+}
+
+// What came back: so many numbers of the answer, the end of what was put into the lent buffer, and that of the buffer; and the end of the
+// numbers that are no bytes.
+pub(crate) struct Came {
+    pub(crate) answers: usize,
+    pub(crate) put: usize,
+    pub(crate) length: usize,
+    pub(crate) decimals: usize,
+}
+
+fn other_call(word: &[u8]) -> Call {
+    if is_same(word, b"packets") {
+        return Call::Packets;
+    }
+    if is_same(word, b"header") {
+        return Call::Header;
+    }
+    if is_same(word, b"write-evt2") {
+        return Call::Write2;
+    }
+    if is_same(word, b"write-evt3") {
+        return Call::Write3;
+    }
+    if is_same(word, b"event") {
+        return Call::Event;
+    }
+    if is_same(word, b"row") {
+        return Call::Row;
+    }
+    Call::Unknown
+}
+
+// The call of a name.
+pub(crate) fn call_of(word: &[u8]) -> Call {
+    if is_same(word, b"evt2") {
+        return Call::Read(Reader::Evt2);
+    }
+    if is_same(word, b"evt3") {
+        return Call::Read(Reader::Evt3);
+    }
+    if is_same(word, b"raw-evt2") {
+        return Call::Read(Reader::RawEvt2);
+    }
+    if is_same(word, b"raw-evt3") {
+        return Call::Read(Reader::RawEvt3);
+    }
+    if is_same(word, b"dat") {
+        return Call::Read(Reader::Dat);
+    }
+    if is_same(word, b"aedat") {
+        return Call::Read(Reader::Aedat);
+    }
+    other_call(word)
+}
+
+// A number of the answer. None that a case states is as large as the last one.
+fn small(n: u64) -> u32 {
+    if n < 4294967295 {
+        return n as u32;
+    }
+    4294967295
+}
+
+// The end of so many numbers after those of an answer.
+fn end_of(count: u32) -> usize
+    ensures { λ r. ⌜ r ≤ 4294967297 ⌝ }
+{
+    count as usize + 2
+}
+
+// The end of so many rows.
+fn rows_end(count: u32) -> usize
+    ensures { λ r. ⌜ r ≤ 42949672952 ⌝ }
+{
+    count as usize * 10 + 2
+}
+
+fn read_by(reader: Reader, given: [u32; 3], input: &[u8], rows: &mut [u32]) -> ReadingNumbers {
+    match reader {
+        Reader::Evt2 => evt2::read(input, given[1], given[2], rows).numbers(),
+        Reader::Evt3 => evt3::read(input, given[1], given[2], rows).numbers(),
+        Reader::RawEvt2 => raw::read(input, Format::Evt2, rows).numbers(),
+        Reader::RawEvt3 => raw::read(input, Format::Evt3, rows).numbers(),
+        Reader::Dat => dat::read(input, rows).numbers(),
+        Reader::Aedat => aedat::read(input, rows).numbers(),
+    }
+}
+
+// The lent buffer is nine numbers longer than its rows.
+fn read(reader: Reader, given: [u32; 3], input: &[u8], came: &mut [u32]) -> Came {
+    let length = rows_end(given[0]) + 9;
+    let to = least(length, came.len());
+    let from = least(2, to);
+    let reading = read_by(reader, given, input, &mut came[from..to]);
+    put(came, 0, small(reading.refusal));
+    put(came, 1, small(reading.place));
+    Came {
+        answers: 2,
+        put: rows_end(small(reading.rows)),
+        length,
+        decimals: length,
+    }
+}
+
+fn read_header(limit: u32, input: &[u8], came: &mut [u32]) -> Came {
+    let header = header::read(input, limit).numbers();
+    put(came, 0, small(header.refusal));
+    put(came, 1, small(header.place));
+    put(came, 2, header.width);
+    put(came, 3, header.height);
+    Came {
+        answers: 4,
+        put: 4,
+        length: 4,
+        decimals: 4,
+    }
+}
+
+// What is written by the writer of EVT3 or that of EVT2.
+fn write_by(three: bool, list: &[u32], out: &mut [u8]) -> WritingNumbers {
+    if three {
+        return evt3::write(list, out).numbers();
+    }
+    evt2::write(list, out).numbers()
+}
+
+// The end of the words that were written, two bytes each or four.
+fn words_end(three: bool, writing: WritingNumbers) -> usize {
+    if writing.refusal != 0 {
+        return 2;
+    }
+    if three {
+        return small(writing.count) as usize * 2 + 2;
+    }
+    small(writing.count) as usize * 4 + 2
+}
+
+fn write(three: bool, room: u32, list: &[u32], came: &mut [u32]) -> Came {
+    let mut out = [9u8; 8192];
+    let to = least(room as usize, 8192);
+    let from = least(0, to);
+    let writing = write_by(three, list, &mut out[from..to]);
+    widen(&out, came, 2);
+    put(came, 0, small(writing.refusal));
+    put(came, 1, small(writing.count));
+    Came {
+        answers: 2,
+        put: words_end(three, writing),
+        length: end_of(room),
+        decimals: 2,
+    }
+}
+
+// The bits of a single, a NaN's as those of one NaN.
+fn bits_of(x: f32) -> u32 {
+    if x != x {
+        return 2143289344;
+    }
+    f32::to_bits(x)
+}
+
+fn put_single(came: &mut [u32], at: usize, x: f32) {
+    put_low(came, at, bits_of(x) as u64, 4);
+}
+
+fn put_readings(came: &mut [u32], readings: [f32; 7]) {
+    put_single(came, 11, readings[0]);
+    put_single(came, 15, readings[1]);
+    put_single(came, 19, readings[2]);
+    put_single(came, 23, readings[3]);
+    put_single(came, 27, readings[4]);
+    put_single(came, 31, readings[5]);
+    put_single(came, 35, readings[6]);
+}
+
+// The numbers of an event as those of a row, after the refusal.
+fn put_row(came: &mut [u32], event: EventNumbers) {
+    let row = Row {
+        kind: small(event.kind),
+        low: (event.time % 4294967296) as u32,
+        high: small(event.time / 4294967296),
+        a: event.values[0],
+        b: event.values[1],
+        c: event.values[2],
+        d: event.values[3],
+        e: event.values[4],
+        f: event.values[5],
+        g: event.values[6],
+    };
+    let to = least(11, came.len());
+    let from = least(1, to);
+    rows::put(&mut came[from..to], 0, row);
+}
+
+// The end of what a case states of an event: its row, and the readings of a kind that has any.
+fn event_end(kind: u64) -> usize {
+    match kind {
+        0 => 1,
+        3 => 39,
+        4 => 39,
+        _ => 11,
+    }
+}
+
+fn make_event(list: &[u32], came: &mut [u32]) -> Came {
+    let event = rows::event_numbers(list);
+    put(came, 0, small(event.refusal));
+    put_row(came, event);
+    let readings = event.readings;
+    put_readings(came, readings);
+    Came {
+        answers: 1,
+        put: event_end(event.kind),
+        length: 39,
+        decimals: 11,
+    }
+}
+
+// 0 where there is no such row, 1 where there is no room for it, 2 where it is put.
+fn move_row(found: RowAt, to: u32, rows: &mut [u32]) -> u32 {
+    match found {
+        RowAt::Found(row) => {
+            if rows::put(rows, to as usize, row) {
+                return 2;
+            }
+            1
+        }
+        RowAt::Nothing => 0,
+    }
+}
+
+// A row of a list put as another row of a buffer, all of whose numbers a case states.
+fn copy_row(given: [u32; 3], list: &[u32], came: &mut [u32]) -> Came {
+    let length = end_of(given[2]);
+    let to = least(length, came.len());
+    let from = least(2, to);
+    let lent = &mut came[from..to];
+    let room = rows::room(lent);
+    let moved = move_row(rows::get(list, given[0] as usize), given[1], lent);
+    put(came, 0, moved);
+    put(came, 1, small(room as u64));
+    Came {
+        answers: 2,
+        put: length,
+        length,
+        decimals: length,
+    }
+}
+
+// Calls with numbers, and with data as a list and as bytes.
+pub(crate) fn run(
+    call: Call,
+    given: [u32; 3],
+    list: &[u32],
+    input: &[u8],
+    came: &mut [u32],
+) -> Came {
+    match call {
+        Call::Read(reader) => read(reader, given, input, came),
+        Call::Packets => read(Reader::Aedat, given, input, came),
+        Call::Header => read_header(given[0], input, came),
+        Call::Write2 => write(false, given[0], list, came),
+        Call::Write3 => write(true, given[0], list, came),
+        Call::Event => make_event(list, came),
+        Call::Row => copy_row(given, list, came),
+        Call::Unknown => Came {
+            answers: 0,
+            put: 0,
+            length: 0,
+            decimals: 0,
+        },
+    }
+}

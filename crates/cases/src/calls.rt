@@ -4,13 +4,13 @@ ghost use Prim.Native.Nat.{_≤_};
 use crate::data::put;
 use crate::data::put_low;
 use crate::data::widen;
+use crate::parts::column;
 use crate::parts::least;
 use header::is_same;
 use raw::Format;
-use rows::EventNumbers;
-use rows::ReadingNumbers;
-use rows::Row;
+use rows::Reading;
 use rows::RowAt;
+use rows::Writing;
 use rows::WritingNumbers;
 
 pub(crate) enum Reader {
@@ -24,11 +24,9 @@ pub(crate) enum Reader {
 
 pub(crate) enum Call {
     Read(Reader),
-    // AEDAT packets after the three lines that every file has.
-    Packets,
     Header,
-    Write2,
-    Write3,
+    // EVT3 words, or EVT2 words.
+    Write(bool),
     Event,
     Row,
     Unknown,
@@ -43,49 +41,37 @@ pub(crate) struct Came {
     pub(crate) decimals: usize,
 }
 
-fn other_call(word: &[u8]) -> Call {
-    if is_same(word, b"packets") {
-        return Call::Packets;
+// How many names stand before a name in the list of all; 12 where it is none of them.
+fn place_of(name: &[u8]) -> usize {
+    let names =
+        b"evt2 evt3 raw-evt2 raw-evt3 dat aedat packets header write-evt2 write-evt3 event row ";
+    let mut i = 0;
+    while i < 12 {
+        if is_same(name, column(names, b' ', i)) {
+            return i;
+        }
+        i += 1;
     }
-    if is_same(word, b"header") {
-        return Call::Header;
-    }
-    if is_same(word, b"write-evt2") {
-        return Call::Write2;
-    }
-    if is_same(word, b"write-evt3") {
-        return Call::Write3;
-    }
-    if is_same(word, b"event") {
-        return Call::Event;
-    }
-    if is_same(word, b"row") {
-        return Call::Row;
-    }
-    Call::Unknown
+    i
 }
 
 // The call of a name.
-pub(crate) fn call_of(word: &[u8]) -> Call {
-    if is_same(word, b"evt2") {
-        return Call::Read(Reader::Evt2);
+pub(crate) fn call_of(name: &[u8]) -> Call {
+    match place_of(name) {
+        0 => Call::Read(Reader::Evt2),
+        1 => Call::Read(Reader::Evt3),
+        2 => Call::Read(Reader::RawEvt2),
+        3 => Call::Read(Reader::RawEvt3),
+        4 => Call::Read(Reader::Dat),
+        5 => Call::Read(Reader::Aedat),
+        6 => Call::Read(Reader::Aedat),
+        7 => Call::Header,
+        8 => Call::Write(false),
+        9 => Call::Write(true),
+        10 => Call::Event,
+        11 => Call::Row,
+        _ => Call::Unknown,
     }
-    if is_same(word, b"evt3") {
-        return Call::Read(Reader::Evt3);
-    }
-    if is_same(word, b"raw-evt2") {
-        return Call::Read(Reader::RawEvt2);
-    }
-    if is_same(word, b"raw-evt3") {
-        return Call::Read(Reader::RawEvt3);
-    }
-    if is_same(word, b"dat") {
-        return Call::Read(Reader::Dat);
-    }
-    if is_same(word, b"aedat") {
-        return Call::Read(Reader::Aedat);
-    }
-    other_call(word)
 }
 
 // A number of the answer. None that a case states is as large as the last one.
@@ -94,6 +80,12 @@ fn small(n: u64) -> u32 {
         return n as u32;
     }
     4294967295
+}
+
+// The first two numbers of an answer.
+fn put_two(came: &mut [u32], first: u64, second: u64) {
+    put(came, 0, small(first));
+    put(came, 1, small(second));
 }
 
 // The end of so many numbers after those of an answer.
@@ -110,14 +102,20 @@ fn rows_end(count: u32) -> usize
     count as usize * 10 + 2
 }
 
-fn read_by(reader: Reader, given: [u32; 3], input: &[u8], rows: &mut [u32]) -> ReadingNumbers {
+fn read_file(reader: Reader, input: &[u8], rows: &mut [u32]) -> Reading {
     match reader {
-        Reader::Evt2 => evt2::read(input, given[1], given[2], rows).numbers(),
-        Reader::Evt3 => evt3::read(input, given[1], given[2], rows).numbers(),
-        Reader::RawEvt2 => raw::read(input, Format::Evt2, rows).numbers(),
-        Reader::RawEvt3 => raw::read(input, Format::Evt3, rows).numbers(),
-        Reader::Dat => dat::read(input, rows).numbers(),
-        Reader::Aedat => aedat::read(input, rows).numbers(),
+        Reader::RawEvt2 => raw::read(input, Format::Evt2, rows),
+        Reader::RawEvt3 => raw::read(input, Format::Evt3, rows),
+        Reader::Dat => dat::read(input, rows),
+        _ => aedat::read(input, rows),
+    }
+}
+
+fn read_by(reader: Reader, given: [u32; 3], input: &[u8], rows: &mut [u32]) -> Reading {
+    match reader {
+        Reader::Evt2 => evt2::read(input, given[1], given[2], rows),
+        Reader::Evt3 => evt3::read(input, given[1], given[2], rows),
+        _ => read_file(reader, input, rows),
     }
 }
 
@@ -126,9 +124,8 @@ fn read(reader: Reader, given: [u32; 3], input: &[u8], came: &mut [u32]) -> Came
     let length = rows_end(given[0]) + 9;
     let to = least(length, came.len());
     let from = least(2, to);
-    let reading = read_by(reader, given, input, &mut came[from..to]);
-    put(came, 0, small(reading.refusal));
-    put(came, 1, small(reading.place));
+    let reading = read_by(reader, given, input, &mut came[from..to]).numbers();
+    put_two(came, reading.refusal, reading.place);
     Came {
         answers: 2,
         put: rows_end(small(reading.rows)),
@@ -139,8 +136,7 @@ fn read(reader: Reader, given: [u32; 3], input: &[u8], came: &mut [u32]) -> Came
 
 fn read_header(limit: u32, input: &[u8], came: &mut [u32]) -> Came {
     let header = header::read(input, limit).numbers();
-    put(came, 0, small(header.refusal));
-    put(came, 1, small(header.place));
+    put_two(came, header.refusal, header.place);
     put(came, 2, header.width);
     put(came, 3, header.height);
     Came {
@@ -152,11 +148,11 @@ fn read_header(limit: u32, input: &[u8], came: &mut [u32]) -> Came {
 }
 
 // What is written by the writer of EVT3 or that of EVT2.
-fn write_by(three: bool, list: &[u32], out: &mut [u8]) -> WritingNumbers {
+fn write_by(three: bool, list: &[u32], out: &mut [u8]) -> Writing {
     if three {
-        return evt3::write(list, out).numbers();
+        return evt3::write(list, out);
     }
-    evt2::write(list, out).numbers()
+    evt2::write(list, out)
 }
 
 // The end of the words that were written, two bytes each or four.
@@ -174,10 +170,9 @@ fn write(three: bool, room: u32, list: &[u32], came: &mut [u32]) -> Came {
     let mut out = [9u8; 8192];
     let to = least(room as usize, 8192);
     let from = least(0, to);
-    let writing = write_by(three, list, &mut out[from..to]);
+    let writing = write_by(three, list, &mut out[from..to]).numbers();
     widen(&out, came, 2);
-    put(came, 0, small(writing.refusal));
-    put(came, 1, small(writing.count));
+    put_two(came, writing.refusal, writing.count);
     Came {
         answers: 2,
         put: words_end(three, writing),
@@ -198,33 +193,14 @@ fn put_single(came: &mut [u32], at: usize, x: f32) {
     put_low(came, at, bits_of(x) as u64, 4);
 }
 
-fn put_readings(came: &mut [u32], readings: [f32; 7]) {
-    put_single(came, 11, readings[0]);
-    put_single(came, 15, readings[1]);
-    put_single(came, 19, readings[2]);
-    put_single(came, 23, readings[3]);
-    put_single(came, 27, readings[4]);
-    put_single(came, 31, readings[5]);
-    put_single(came, 35, readings[6]);
-}
-
-// The numbers of an event as those of a row, after the refusal.
-fn put_row(came: &mut [u32], event: EventNumbers) {
-    let row = Row {
-        kind: small(event.kind),
-        low: (event.time % 4294967296) as u32,
-        high: small(event.time / 4294967296),
-        a: event.values[0],
-        b: event.values[1],
-        c: event.values[2],
-        d: event.values[3],
-        e: event.values[4],
-        f: event.values[5],
-        g: event.values[6],
-    };
-    let to = least(11, came.len());
-    let from = least(1, to);
-    rows::put(&mut came[from..to], 0, row);
+// The numbers of an event that stand in its row too, and its readings.
+fn put_values(came: &mut [u32], values: [u32; 7], readings: [f32; 7]) {
+    let mut i = 0;
+    while i < 7 {
+        put(came, 4 + i, values[i]);
+        put_single(came, 11 + 4 * i, readings[i]);
+        i += 1;
+    }
 }
 
 // The end of what a case states of an event: its row, and the readings of a kind that has any.
@@ -239,10 +215,12 @@ fn event_end(kind: u64) -> usize {
 
 fn make_event(list: &[u32], came: &mut [u32]) -> Came {
     let event = rows::event_numbers(list);
-    put(came, 0, small(event.refusal));
-    put_row(came, event);
+    put_two(came, event.refusal, event.kind);
+    put(came, 2, (event.time % 4294967296) as u32);
+    put(came, 3, small(event.time / 4294967296));
+    let values = event.values;
     let readings = event.readings;
-    put_readings(came, readings);
+    put_values(came, values, readings);
     Came {
         answers: 1,
         put: event_end(event.kind),
@@ -252,7 +230,7 @@ fn make_event(list: &[u32], came: &mut [u32]) -> Came {
 }
 
 // 0 where there is no such row, 1 where there is no room for it, 2 where it is put.
-fn move_row(found: RowAt, to: u32, rows: &mut [u32]) -> u32 {
+fn move_row(found: RowAt, to: u32, rows: &mut [u32]) -> u64 {
     match found {
         RowAt::Found(row) => {
             if rows::put(rows, to as usize, row) {
@@ -272,8 +250,7 @@ fn copy_row(given: [u32; 3], list: &[u32], came: &mut [u32]) -> Came {
     let lent = &mut came[from..to];
     let room = rows::room(lent);
     let moved = move_row(rows::get(list, given[0] as usize), given[1], lent);
-    put(came, 0, moved);
-    put(came, 1, small(room as u64));
+    put_two(came, moved, room as u64);
     Came {
         answers: 2,
         put: length,
@@ -292,10 +269,8 @@ pub(crate) fn run(
 ) -> Came {
     match call {
         Call::Read(reader) => read(reader, given, input, came),
-        Call::Packets => read(Reader::Aedat, given, input, came),
         Call::Header => read_header(given[0], input, came),
-        Call::Write2 => write(false, given[0], list, came),
-        Call::Write3 => write(true, given[0], list, came),
+        Call::Write(three) => write(three, given[0], list, came),
         Call::Event => make_event(list, came),
         Call::Row => copy_row(given, list, came),
         Call::Unknown => Came {

@@ -28,25 +28,13 @@ fn form_of(call: Call) -> Form {
             before: 7,
             given: 16,
         },
-        Call::Packets => Form {
-            data: false,
-            rows: true,
-            before: 7,
-            given: 16,
-        },
         Call::Header => Form {
             data: false,
             rows: true,
             before: 0,
             given: 2048,
         },
-        Call::Write2 => Form {
-            data: true,
-            rows: false,
-            before: 9,
-            given: 96,
-        },
-        Call::Write3 => Form {
+        Call::Write(_) => Form {
             data: true,
             rows: false,
             before: 9,
@@ -73,17 +61,17 @@ fn form_of(call: Call) -> Form {
     }
 }
 
-// The bytes that stand before the data of a call.
-fn lines_before(call: Call, data: &mut [u32]) -> usize {
-    match call {
-        Call::Packets => units(
+// The lines that stand before AEDAT packets.
+fn lines_before(name: &[u8], data: &mut [u32]) -> usize {
+    if header::is_same(name, b"packets") {
+        return units(
             b"\"#!AER-DAT3.1\\r\\n#Format: RAW\\r\\n#!END-HEADER\\r\\n\"",
             0,
             false,
             data,
-        ),
-        _ => 0,
+        );
     }
+    0
 }
 
 fn is_same(a: &[u32], b: &[u32]) -> bool {
@@ -102,8 +90,7 @@ fn is_same(a: &[u32], b: &[u32]) -> bool {
 
 // A line on a case that does not hold.
 fn tell(line: &[u8], what: &[u8]) -> bool {
-    say(column(line, b'|', 0));
-    say(b"| ");
+    say(part(line, 0, begin(line, b'|', 2)));
     say(what);
     say(b"\n");
     false
@@ -130,26 +117,31 @@ fn say_all(list: &[u32], came: Came) {
 
 // What came back of a case that does not hold.
 fn tell_all(line: &[u8], list: &[u32], came: Came) -> bool {
-    say(column(line, b'|', 0));
-    say(b"|");
+    say(part(line, 0, begin(line, b'|', 2)));
     say_all(list, came);
     say(b"\n");
     false
 }
 
-// Calls, and compares.
-fn holds_for(line: &[u8], call: Call, data: &[u32], stated: &[u32], end: usize) -> bool {
-    let form = form_of(call);
-    let mut given = [form.given, 2048, 2048];
+// The numbers that a case gives to its call.
+fn given_by(line: &[u8], given: u32) -> [u32; 3] {
+    let mut given = [given, 2048, 2048];
     let words = column(line, b'|', 1);
     let numbers = part(words, begin(words, b' ', 2), words.len());
     units(numbers, 0, true, &mut given);
+    given
+}
+
+// Calls, and compares.
+fn holds_for(line: &[u8], call: Call, data: &[u32], stated: &[u32], end: usize) -> bool {
+    let form = form_of(call);
+    let given = given_by(line, form.given);
     let mut input = [0u8; 8192];
     narrow(data, &mut input);
     let mut list = [form.before; 8192];
     let came = calls::run(call, given, data, part(&input, 0, data.len()), &mut list);
     if 8192 < came.length {
-        return tell(line, b"does not fit");
+        return tell(line, b" does not fit");
     }
     let list = first(&list, came.length);
     if end != came.put {
@@ -171,27 +163,28 @@ fn stated_by(line: &[u8], rows: bool, stated: &mut [u32]) -> usize {
     units(column(line, b'|', 5), buffer, false, stated)
 }
 
-fn holds_as(line: &[u8], call: Call) -> bool {
+fn holds_as(line: &[u8], name: &[u8], call: Call) -> bool {
     let form = form_of(call);
     let mut data = [0u32; 8192];
-    let from = lines_before(call, &mut data);
+    let from = lines_before(name, &mut data);
     let to = units(column(line, b'|', 2), from, form.data, &mut data);
     let mut stated = [form.before; 8192];
     let end = stated_by(line, form.rows, &mut stated);
     if end == 0 {
-        return tell(line, b"no case");
+        return tell(line, b" no case");
     }
     if (8192 < to) | (8192 < end) {
-        return tell(line, b"does not fit");
+        return tell(line, b" does not fit");
     }
     holds_for(line, call, first(&data, to), &stated, end)
 }
 
 // Whether the case of a line holds.
 pub(crate) fn holds(line: &[u8]) -> bool {
-    let call = calls::call_of(column(column(line, b'|', 1), b' ', 1));
+    let name = column(column(line, b'|', 1), b' ', 1);
+    let call = calls::call_of(name);
     match call {
-        Call::Unknown => tell(line, b"no such call"),
-        _ => holds_as(line, call),
+        Call::Unknown => tell(line, b" no such call"),
+        _ => holds_as(line, name, call),
     }
 }

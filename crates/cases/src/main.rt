@@ -33,6 +33,13 @@ impl Tally {
         self.failed = wrapping_add_u64(self.failed, 1);
         self
     }
+
+    fn tell(self) {
+        text::number(self.cases);
+        text::say(b" cases, ");
+        text::number(self.failed);
+        text::say(b" of them do not hold\n");
+    }
 }
 
 // All lines of a table.
@@ -62,11 +69,7 @@ fn buffer() -> [u8; 262144]
 fn main() {
     let mut table = buffer();
     let n = io::read_full(STDIN_FILENO, &mut table);
-    let tally = lines(&table[..n]);
-    text::number(tally.cases);
-    text::say(b" cases, ");
-    text::number(tally.failed);
-    text::say(b" of them do not hold\n");
+    lines(&table[..n]).tell();
     if n == 262144 {
         text::say(b"the table does not fit\n");
     }

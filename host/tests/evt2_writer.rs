@@ -7,7 +7,7 @@ use fryskelom::samples::evt2::{a_start, list, Scene};
 use fryskelom::samples::{imu, Numbers};
 use fryskelom::second::rows::{limits, time_of, Row};
 use fryskelom::second::words::Writing;
-use fryskelom::{evt2_written, fast, read_evt2, second};
+use fryskelom::{evt2_written, fast, read_evt2, second, Refusal, RowFault};
 use writers::{answer, compare_all, compare_longest, often, write_longest, Answer, MOST_ROWS};
 
 fn hand_written(rows: &[u32], out: &mut [u8]) -> Answer {
@@ -86,4 +86,10 @@ fn most_words() {
         [0x8000_0000 | (time(i) / 64) as u32, first, next, next, next, next, next].map(u32::to_le_bytes)
     };
     write_longest([evt2_written, hand_written], |i| imu(time(i), [i as u32 & 0xffff; 6]), || (0..MOST_ROWS).flat_map(words));
+}
+
+#[test]
+fn faults_as_text() {
+    let fault = |refusal, row| RowFault { refusal: Refusal(refusal), row }.to_string();
+    assert_eq!([fault(12, 3), fault(5, 0), fault(13, 0)], ["refusal 12 at row 3", "refusal 5 at row 0", "refusal 13"]);
 }

@@ -46,18 +46,6 @@ fn form_of(call: Call) -> Form {
             before: 0,
             given: 0,
         },
-        Call::Row => Form {
-            data: true,
-            rows: true,
-            before: 7,
-            given: 0,
-        },
-        Call::Unknown => Form {
-            data: false,
-            rows: false,
-            before: 0,
-            given: 0,
-        },
     }
 }
 
@@ -74,8 +62,9 @@ fn lines_before(name: &[u8], data: &mut [u32]) -> usize {
     0
 }
 
-fn is_same(a: &[u32], b: &[u32]) -> bool {
-    if a.len() != b.len() {
+// Whether a list begins another.
+fn begins(a: &[u32], b: &[u32]) -> bool {
+    if b.len() < a.len() {
         return false;
     }
     let mut i = 0;
@@ -96,20 +85,15 @@ fn tell(line: &[u8], what: &[u8]) -> bool {
     false
 }
 
-// What stands before a number.
-fn say_before(i: usize, came: Came) {
-    if i == came.answers {
-        say(b" |");
-    }
-    if i == came.put {
-        say(b" then");
-    }
-}
-
 fn say_all(list: &[u32], came: Came) {
     let mut i = 0;
     while i < list.len() {
-        say_before(i, came);
+        if i == came.answers {
+            say(b" |");
+        }
+        if i == came.rows {
+            say(b" then");
+        }
         unit(list[i], i < came.decimals);
         i += 1;
     }
@@ -123,19 +107,13 @@ fn tell_all(line: &[u8], list: &[u32], came: Came) -> bool {
     false
 }
 
-// The numbers that a case gives to its call.
-fn given_by(line: &[u8], given: u32) -> [u32; 3] {
-    let mut given = [given, 2048, 2048];
+// Calls, and compares: a reader's rows end where the stated ones do, and all numbers are the stated ones.
+fn holds_for(line: &[u8], call: Call, data: &[u32], stated: &[u32], end: usize) -> bool {
+    let form = form_of(call);
+    let mut given = [form.given, 2048, 2048];
     let words = column(line, b'|', 1);
     let numbers = part(words, begin(words, b' ', 2), words.len());
     units(numbers, 0, true, &mut given);
-    given
-}
-
-// Calls, and compares.
-fn holds_for(line: &[u8], call: Call, data: &[u32], stated: &[u32], end: usize) -> bool {
-    let form = form_of(call);
-    let given = given_by(line, form.given);
     let mut input = [0u8; 8192];
     narrow(data, &mut input);
     let mut list = [form.before; 8192];
@@ -144,47 +122,40 @@ fn holds_for(line: &[u8], call: Call, data: &[u32], stated: &[u32], end: usize) 
         return tell(line, b" does not fit");
     }
     let list = first(&list, came.length);
-    if end != came.put {
-        return tell_all(line, list, came);
-    }
-    if is_same(list, first(stated, came.length)) {
-        return true;
+    if (came.rows == came.length) | (came.rows == end) {
+        if begins(list, stated) {
+            return true;
+        }
     }
     tell_all(line, list, came)
 }
 
-// Puts what a case states into a list, and answers its end; 0 where it states nothing.
-fn stated_by(line: &[u8], rows: bool, stated: &mut [u32]) -> usize {
-    let answer = units(column(line, b'|', 3), 0, true, stated);
-    if answer == 0 {
-        return 0;
-    }
-    let buffer = units(column(line, b'|', 4), answer, rows, stated);
-    units(column(line, b'|', 5), buffer, false, stated)
-}
-
-fn holds_as(line: &[u8], name: &[u8], call: Call) -> bool {
-    let form = form_of(call);
-    let mut data = [0u32; 8192];
-    let from = lines_before(name, &mut data);
-    let to = units(column(line, b'|', 2), from, form.data, &mut data);
-    let mut stated = [form.before; 8192];
-    let end = stated_by(line, form.rows, &mut stated);
-    if end == 0 {
-        return tell(line, b" no case");
-    }
-    if (8192 < to) | (8192 < end) {
-        return tell(line, b" does not fit");
-    }
-    holds_for(line, call, first(&data, to), &stated, end)
+// The numbers of a column.
+fn column_into(line: &[u8], count: usize, from: usize, decimal: bool, list: &mut [u32]) -> usize {
+    units(column(line, b'|', count), from, decimal, list)
 }
 
 // Whether the case of a line holds.
 pub(crate) fn holds(line: &[u8]) -> bool {
     let name = column(column(line, b'|', 1), b' ', 1);
-    let call = calls::call_of(name);
-    match call {
-        Call::Unknown => tell(line, b" no such call"),
-        _ => holds_as(line, name, call),
+    let place = calls::place_of(name);
+    if place == 11 {
+        return tell(line, b" no such call");
     }
+    let call = calls::call_of(place);
+    let form = form_of(call);
+    let mut data = [0u32; 8192];
+    let from = lines_before(name, &mut data);
+    let to = column_into(line, 2, from, form.data, &mut data);
+    let mut stated = [form.before; 8192];
+    let answer = column_into(line, 3, 0, true, &mut stated);
+    if answer == 0 {
+        return tell(line, b" no case");
+    }
+    let buffer = column_into(line, 4, answer, form.rows, &mut stated);
+    let end = column_into(line, 5, buffer, false, &mut stated);
+    if (8192 < to) | (8192 < end) {
+        return tell(line, b" does not fit");
+    }
+    holds_for(line, call, first(&data, to), &stated, end)
 }

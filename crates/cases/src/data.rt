@@ -67,10 +67,15 @@ fn put_again(list: &mut [u32], from: usize, to: usize, count: usize) {
     }
 }
 
-// The value of a digit; 16 for what is none.
-fn digit_of(byte: u8) -> u64 {
+// The value of a digit, decimal or hexadecimal; 16 for what is none.
+fn digit_of(byte: u8, decimal: bool) -> u64 {
+    if (b'0' <= byte) & (byte <= b'9') {
+        return (byte % 16) as u64;
+    }
+    if decimal {
+        return 16;
+    }
     match byte {
-        b'0'..=b'9' => (byte % 16) as u64,
         b'A'..=b'F' => (byte % 16) as u64 + 9,
         b'a'..=b'f' => (byte % 16) as u64 + 9,
         _ => 16,
@@ -87,33 +92,7 @@ fn escape(byte: u8) -> u8 {
     }
 }
 
-// How many numbers a number of so many hexadecimal digits is.
-fn bytes_of(digits: usize) -> usize {
-    if 16 < digits {
-        return NOWHERE;
-    }
-    if digits % 2 == 1 {
-        return NOWHERE;
-    }
-    digits / 2
-}
-
-// How many one of a value is that is to be below 2^32.
-fn one_of(value: u64) -> usize {
-    if value < 4294967296 {
-        return 1;
-    }
-    NOWHERE
-}
-
 impl Run {
-    fn is_digit(self, digit: u64) -> bool {
-        if self.decimal | self.counting {
-            return digit < 10;
-        }
-        digit < 16
-    }
-
     fn after_digit(mut self, digit: u64) -> Run {
         let value = self.value;
         self.digits = wrapping_add_usize(self.digits, 1);
@@ -154,11 +133,17 @@ impl Run {
         }
         self.from = self.to;
         if self.decimal {
+            if (10 < self.digits) | (4294967295 < self.value) {
+                return self.after(NOWHERE);
+            }
             put(list, self.to, (self.value % 4294967296) as u32);
-            return self.after(one_of(self.value));
+            return self.after(1);
+        }
+        if (16 < self.digits) | (self.digits % 2 == 1) {
+            return self.after(NOWHERE);
         }
         put_low(list, self.to, self.value, self.digits / 2);
-        self.after(bytes_of(self.digits))
+        self.after(self.digits / 2)
     }
 
     // After a sign between numbers.
@@ -192,14 +177,10 @@ impl Run {
         }
     }
 
-    fn after_text(self, byte: u8, list: &mut [u32]) -> Run {
-        put_byte(list, self.to, byte);
-        self.after(1)
-    }
-
     fn after_quoted(mut self, byte: u8, list: &mut [u32]) -> Run {
         if self.escaped {
-            return self.after_text(escape(byte), list);
+            put_byte(list, self.to, escape(byte));
+            return self.after(1);
         }
         if byte == b'\\' {
             self.escaped = true;
@@ -209,15 +190,16 @@ impl Run {
             self.quoted = false;
             return self;
         }
-        self.after_text(byte, list)
+        put_byte(list, self.to, byte);
+        self.after(1)
     }
 
     fn after_byte(self, byte: u8, list: &mut [u32]) -> Run {
         if self.quoted {
             return self.after_quoted(byte, list);
         }
-        let digit = digit_of(byte);
-        if self.is_digit(digit) {
+        let digit = digit_of(byte, self.decimal | self.counting);
+        if digit < 16 {
             return self.after_digit(digit);
         }
         let run = self.after_number(list);

@@ -4,6 +4,7 @@
 ghost use mathlib.Core.Path.{_≡_};
 ghost use lib.ListN.{length};
 use libc::STDIN_FILENO;
+use libc::STDOUT_FILENO;
 use std::num::wrapping_add_u64;
 
 mod calls;
@@ -32,13 +33,6 @@ impl Tally {
         }
         self.failed = wrapping_add_u64(self.failed, 1);
         self
-    }
-
-    fn tell(self) {
-        text::number(self.cases);
-        text::say(b" cases, ");
-        text::number(self.failed);
-        text::say(b" of them do not hold\n");
     }
 }
 
@@ -69,7 +63,11 @@ fn buffer() -> [u8; 262144]
 fn main() {
     let mut table = buffer();
     let n = io::read_full(STDIN_FILENO, &mut table);
-    lines(&table[..n]).tell();
+    let tally = lines(&table[..n]);
+    io::print_decimal(STDOUT_FILENO, tally.cases);
+    text::say(b" cases, ");
+    io::print_decimal(STDOUT_FILENO, tally.failed);
+    text::say(b" of them do not hold\n");
     if n == 262144 {
         text::say(b"the table does not fit\n");
     }

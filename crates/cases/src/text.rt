@@ -5,15 +5,12 @@ pub(crate) fn say(text: &[u8]) {
     io::write_all(STDOUT_FILENO, text);
 }
 
-pub(crate) fn number(n: u64) {
-    io::print_decimal(STDOUT_FILENO, n);
-}
-
 // A space and a number, a byte in two hexadecimal digits where it is one.
 pub(crate) fn unit(n: u32, decimal: bool) {
     say(b" ");
     if decimal {
-        return number(n as u64);
+        io::print_decimal(STDOUT_FILENO, n as u64);
+        return;
     }
     io::print_hex(STDOUT_FILENO, n as u64, 2);
 }

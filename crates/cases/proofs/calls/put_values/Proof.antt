@@ -27,20 +27,26 @@ array-read-put c = search needs
 put-requires : tie.Need-put-requires Inv-loop μ-loop
 put-requires c κs = search needs
 
-mul-put-single : tie.Need-mul-put-single Inv-loop μ-loop
-mul-put-single c = search needs
+mul-put-low : tie.Need-mul-put-low Inv-loop μ-loop
+mul-put-low c = search needs
 
-add-put-single : tie.Need-add-put-single Inv-loop μ-loop
-add-put-single c = search needs
+add-put-low : tie.Need-add-put-low Inv-loop μ-loop
+add-put-low c = search needs
 
-mul-put-single-2 : tie.Need-mul-put-single-2 Inv-loop μ-loop
-mul-put-single-2 c = search needs
+mul-bits-of : tie.Need-mul-bits-of Inv-loop μ-loop
+mul-bits-of c = search needs
 
-array-read-put-single : tie.Need-array-read-put-single Inv-loop μ-loop
-array-read-put-single c = search needs
+array-read-bits-of : tie.Need-array-read-bits-of Inv-loop μ-loop
+array-read-bits-of c = search needs
 
-put-single-requires : tie.Need-put-single-requires Inv-loop μ-loop
-put-single-requires c κs = search needs
+bits-of-requires : tie.Need-bits-of-requires Inv-loop μ-loop
+bits-of-requires c κs = search needs
+
+cast-put-low : tie.Need-cast-put-low Inv-loop μ-loop
+cast-put-low c = search needs
+
+put-low-requires : tie.Need-put-low-requires Inv-loop μ-loop
+put-low-requires c κs = search needs
 
 add-i : tie.Need-add-i Inv-loop μ-loop
 add-i c = search needs
@@ -68,11 +74,13 @@ put-values-spec =
     mul-put
     array-read-put
     put-requires
-    mul-put-single
-    add-put-single
-    mul-put-single-2
-    array-read-put-single
-    put-single-requires
+    mul-put-low
+    add-put-low
+    mul-bits-of
+    array-read-bits-of
+    bits-of-requires
+    cast-put-low
+    put-low-requires
     add-i
     loop-less
     loop-again

@@ -6,16 +6,25 @@ use Rattle.cases.proofs.case.say_all.Statement.{statement}
 use Rattle.cases.proofs.case.say_all.Tie as tie
 
 abbrev Inv-loop : tie.InvT-loop
-Inv-loop list came i₀ i = i ≤ length list
+Inv-loop list came i₀ t4 t5 i = i ≤ length list
 
 abbrev μ-loop : tie.MeasureT-loop
-μ-loop list came i₀ i = length list - i
+μ-loop list came i₀ t4 t5 i = length list - i
 
 loop-holds : tie.Need-loop-holds Inv-loop μ-loop
 loop-holds c = search needs
 
-say-before-requires : tie.Need-say-before-requires Inv-loop μ-loop
-say-before-requires c κs = search needs
+slice-aggregate-say : tie.Need-slice-aggregate-say Inv-loop μ-loop
+slice-aggregate-say c = search needs
+
+say-requires : tie.Need-say-requires Inv-loop μ-loop
+say-requires c κs = search needs
+
+slice-aggregate-say-2 : tie.Need-slice-aggregate-say-2 Inv-loop μ-loop
+slice-aggregate-say-2 c = search needs
+
+say-requires-2 : tie.Need-say-requires-2 Inv-loop μ-loop
+say-requires-2 c κs = search needs
 
 mul-unit : tie.Need-mul-unit Inv-loop μ-loop
 mul-unit c = search needs
@@ -45,7 +54,10 @@ say-all-spec =
     Inv-loop
     μ-loop
     loop-holds
-    say-before-requires
+    slice-aggregate-say
+    say-requires
+    slice-aggregate-say-2
+    say-requires-2
     mul-unit
     shared-slice-read-unit
     unit-requires

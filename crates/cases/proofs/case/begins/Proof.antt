@@ -1,13 +1,12 @@
--- `cases::case::is_same` meets its contract.
-use mathlib.Core.Path.{_≡_}
+-- `cases::case::begins` meets its contract.
 use Prim.Native.Nat.{_-_, _≤_}
 use borrow.Author.Needs.{needs}
 use lib.ListN.{length}
-use Rattle.cases.proofs.case.is_same.Statement.{statement}
-use Rattle.cases.proofs.case.is_same.Tie as tie
+use Rattle.cases.proofs.case.begins.Statement.{statement}
+use Rattle.cases.proofs.case.begins.Tie as tie
 
 abbrev Inv-loop : tie.InvT-loop
-Inv-loop a b i₀ i = (i ≤ length a) × (length a ≡ length b)
+Inv-loop a b i₀ i = (i ≤ length a) × (length a ≤ length b)
 
 abbrev μ-loop : tie.MeasureT-loop
 μ-loop a b i₀ i = length a - i
@@ -45,8 +44,8 @@ loop-again c = search needs
 returns-3 : tie.Need-returns-3 Inv-loop μ-loop
 returns-3 c = search needs
 
-pub is-same-spec : {M : Type 1} → statement M
-is-same-spec =
+pub begins-spec : {M : Type 1} → statement M
+begins-spec =
     tie.close
     (tie.spec
     Inv-loop

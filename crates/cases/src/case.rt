@@ -49,9 +49,9 @@ fn form_of(call: Call) -> Form {
     }
 }
 
-// The lines that stand before AEDAT packets.
-fn lines_before(name: &[u8], data: &mut [u32]) -> usize {
-    if header::is_same(name, b"packets") {
+// The lines that stand before AEDAT packets, the data of the call at place 6.
+fn lines_before(place: usize, data: &mut [u32]) -> usize {
+    if place == 6 {
         return units(
             b"\"#!AER-DAT3.1\\r\\n#Format: RAW\\r\\n#!END-HEADER\\r\\n\"",
             0,
@@ -85,7 +85,9 @@ fn tell(line: &[u8], what: &[u8]) -> bool {
     false
 }
 
-fn say_all(list: &[u32], came: Came) {
+// What came back of a case that does not hold.
+fn tell_all(line: &[u8], list: &[u32], came: Came) -> bool {
+    say(part(line, 0, begin(line, b'|', 2)));
     let mut i = 0;
     while i < list.len() {
         if i == came.answers {
@@ -97,12 +99,6 @@ fn say_all(list: &[u32], came: Came) {
         unit(list[i], i < came.decimals);
         i += 1;
     }
-}
-
-// What came back of a case that does not hold.
-fn tell_all(line: &[u8], list: &[u32], came: Came) -> bool {
-    say(part(line, 0, begin(line, b'|', 2)));
-    say_all(list, came);
     say(b"\n");
     false
 }
@@ -137,15 +133,14 @@ fn column_into(line: &[u8], count: usize, from: usize, decimal: bool, list: &mut
 
 // Whether the case of a line holds.
 pub(crate) fn holds(line: &[u8]) -> bool {
-    let name = column(column(line, b'|', 1), b' ', 1);
-    let place = calls::place_of(name);
+    let place = calls::place_of(column(column(line, b'|', 1), b' ', 1));
     if place == 11 {
         return tell(line, b" no such call");
     }
     let call = calls::call_of(place);
     let form = form_of(call);
     let mut data = [0u32; 8192];
-    let from = lines_before(name, &mut data);
+    let from = lines_before(place, &mut data);
     let to = column_into(line, 2, from, form.data, &mut data);
     let mut stated = [form.before; 8192];
     let answer = column_into(line, 3, 0, true, &mut stated);

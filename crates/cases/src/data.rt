@@ -92,6 +92,14 @@ fn escape(byte: u8) -> u8 {
     }
 }
 
+// So many numbers, or more than fit.
+fn count_of(count: usize, bad: bool) -> usize {
+    if bad {
+        return NOWHERE;
+    }
+    count
+}
+
 impl Run {
     fn after_digit(mut self, digit: u64) -> Run {
         let value = self.value;
@@ -133,17 +141,13 @@ impl Run {
         }
         self.from = self.to;
         if self.decimal {
-            if (10 < self.digits) | (4294967295 < self.value) {
-                return self.after(NOWHERE);
-            }
+            let bad = (10 < self.digits) | (4294967295 < self.value);
             put(list, self.to, (self.value % 4294967296) as u32);
-            return self.after(1);
+            return self.after(count_of(1, bad));
         }
-        if (16 < self.digits) | (self.digits % 2 == 1) {
-            return self.after(NOWHERE);
-        }
+        let bad = (16 < self.digits) | (self.digits % 2 == 1);
         put_low(list, self.to, self.value, self.digits / 2);
-        self.after(self.digits / 2)
+        self.after(count_of(self.digits / 2, bad))
     }
 
     // After a sign between numbers.

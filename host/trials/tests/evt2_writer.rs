@@ -3,7 +3,7 @@
 #[path = "common/writers.rs"]
 mod writers;
 
-use fryskelom::read_evt2;
+use fryskelom::{read_evt2, Refusal, RowFault};
 use trials::samples::evt2::{a_start, list, Scene};
 use trials::samples::{imu, Numbers};
 use trials::second::rows::{limits, time_of, Row, MOST_ROWS};
@@ -87,4 +87,10 @@ fn most_words() {
         [0x8000_0000 | (time(i) / 64) as u32, first, next, next, next, next, next].map(u32::to_le_bytes)
     };
     write_longest([numbers::write_evt2, hand_written], |i| imu(time(i), [i as u32 & 0xffff; 6]), || (0..MOST_ROWS).flat_map(words));
+}
+
+#[test]
+fn faults_as_text() {
+    let fault = |refusal, row| RowFault { refusal: Refusal(refusal), row }.to_string();
+    assert_eq!([fault(12, 3), fault(5, 0), fault(13, 0)], ["refusal 12 at row 3", "refusal 5 at row 0", "refusal 13"]);
 }

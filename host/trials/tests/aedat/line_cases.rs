@@ -1,6 +1,5 @@
 //! Header lines with what each is to be, written from the requirement: lines around every rule, at every place in a header.
-use crate::cases::expect;
-use crate::{PIXEL, PIXEL_ROW, READERS};
+use crate::{expect, PIXEL, PIXEL_ROW, READERS};
 use trials::samples::aedat::END;
 
 /// What a line is.

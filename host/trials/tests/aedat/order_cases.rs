@@ -1,6 +1,5 @@
 //! A packet with up to three faults at once: the first in the order of the requirement decides, whatever the others are.
-use crate::cases::expect;
-use crate::{LINES, READERS};
+use crate::{expect, LINES, READERS};
 use trials::samples::aedat::{imu6, polarity, special, Packet, FRAME, IMU6, POLARITY, SPECIAL};
 use trials::samples::{pixel, row, trigger};
 

@@ -85,9 +85,7 @@ fn tell(line: &[u8], what: &[u8]) -> bool {
     false
 }
 
-// What came back of a case that does not hold.
-fn tell_all(line: &[u8], list: &[u32], came: Came) -> bool {
-    say(part(line, 0, begin(line, b'|', 2)));
+fn say_all(list: &[u32], came: Came) {
     let mut i = 0;
     while i < list.len() {
         if i == came.answers {
@@ -99,6 +97,12 @@ fn tell_all(line: &[u8], list: &[u32], came: Came) -> bool {
         unit(list[i], i < came.decimals);
         i += 1;
     }
+}
+
+// What came back of a case that does not hold.
+fn tell_all(line: &[u8], list: &[u32], came: Came) -> bool {
+    say(part(line, 0, begin(line, b'|', 2)));
+    say_all(list, came);
     say(b"\n");
     false
 }

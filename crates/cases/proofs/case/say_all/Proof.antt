@@ -1,24 +1,15 @@
--- `cases::case::tell_all` meets its contract.
+-- `cases::case::say_all` meets its contract.
 use Prim.Native.Nat.{_-_, _≤_}
 use borrow.Author.Needs.{needs}
 use lib.ListN.{length}
-use Rattle.cases.proofs.case.tell_all.Statement.{statement}
-use Rattle.cases.proofs.case.tell_all.Tie as tie
+use Rattle.cases.proofs.case.say_all.Statement.{statement}
+use Rattle.cases.proofs.case.say_all.Tie as tie
 
 abbrev Inv-loop : tie.InvT-loop
-Inv-loop line list came i₀ t5 t6 t7 i = i ≤ length list
+Inv-loop list came i₀ t4 t5 i = i ≤ length list
 
 abbrev μ-loop : tie.MeasureT-loop
-μ-loop line list came i₀ t5 t6 t7 i = length list - i
-
-begin-requires : tie.Need-begin-requires Inv-loop μ-loop
-begin-requires c κs = search needs
-
-part-requires : tie.Need-part-requires Inv-loop μ-loop
-part-requires c κs = search needs
-
-say-requires : tie.Need-say-requires Inv-loop μ-loop
-say-requires c κs = search needs
+μ-loop list came i₀ t4 t5 i = length list - i
 
 loop-holds : tie.Need-loop-holds Inv-loop μ-loop
 loop-holds c = search needs
@@ -26,14 +17,14 @@ loop-holds c = search needs
 slice-aggregate-say : tie.Need-slice-aggregate-say Inv-loop μ-loop
 slice-aggregate-say c = search needs
 
-say-requires-2 : tie.Need-say-requires-2 Inv-loop μ-loop
-say-requires-2 c κs = search needs
+say-requires : tie.Need-say-requires Inv-loop μ-loop
+say-requires c κs = search needs
 
 slice-aggregate-say-2 : tie.Need-slice-aggregate-say-2 Inv-loop μ-loop
 slice-aggregate-say-2 c = search needs
 
-say-requires-3 : tie.Need-say-requires-3 Inv-loop μ-loop
-say-requires-3 c κs = search needs
+say-requires-2 : tie.Need-say-requires-2 Inv-loop μ-loop
+say-requires-2 c κs = search needs
 
 mul-unit : tie.Need-mul-unit Inv-loop μ-loop
 mul-unit c = search needs
@@ -53,35 +44,24 @@ loop-less c = search needs
 loop-again : tie.Need-loop-again Inv-loop μ-loop
 loop-again c = search needs
 
-slice-aggregate-say-3 : tie.Need-slice-aggregate-say-3 Inv-loop μ-loop
-slice-aggregate-say-3 c = search needs
-
-say-requires-4 : tie.Need-say-requires-4 Inv-loop μ-loop
-say-requires-4 c κs = search needs
-
 returns : tie.Need-returns Inv-loop μ-loop
 returns c = search needs
 
-pub tell-all-spec : {M : Type 1} → statement M
-tell-all-spec =
+pub say-all-spec : {M : Type 1} → statement M
+say-all-spec =
     tie.close
     (tie.spec
     Inv-loop
     μ-loop
-    begin-requires
-    part-requires
-    say-requires
     loop-holds
     slice-aggregate-say
-    say-requires-2
+    say-requires
     slice-aggregate-say-2
-    say-requires-3
+    say-requires-2
     mul-unit
     shared-slice-read-unit
     unit-requires
     add-i
     loop-less
     loop-again
-    slice-aggregate-say-3
-    say-requires-4
     returns)

@@ -170,7 +170,7 @@ fn put_values(came: &mut [u32], values: [u32; 7], readings: [f32; 7]) {
 }
 
 fn make_event(list: &[u32], came: &mut [u32]) -> Came {
-    let event = rows::event_numbers(list);
+    let event = events::event_numbers(list);
     put_two(came, event.refusal, event.kind);
     put(came, 2, (event.time % 4294967296) as u32);
     put(came, 3, small(event.time / 4294967296));

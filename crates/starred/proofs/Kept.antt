@@ -7,8 +7,8 @@ use Rattle.words.specs.Words.{cutBy, wordsOf, bytesOf}
 use Rattle.words.specs.Writer.{writingVerdict}
 use Rattle.rows.specs.Rules.{goodAs, goodRow, judgedOf, verdictFrom, goodLength, verdictOf}
 use Rattle.rows.specs.Rules as rules
-use Rattle.rows.specs.Readings.{accelerationOf, rotationOf}
-use Rattle.rows.specs.Event.{countsEvent, eventAs, eventOf}
+use Rattle.events.specs.Readings.{accelerationOf, rotationOf}
+use Rattle.events.specs.Event.{countsEvent, eventAs, eventOf}
 use Rattle.header.specs.Header.{stepOf, headerFrom, headerOf}
 use Rattle.header.specs.Lines.{isLine, lineEnd}
 use Rattle.header.specs.Texts.{sameAs}

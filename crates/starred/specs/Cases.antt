@@ -6,11 +6,11 @@ use mathlib.Core.List.{List, [], _∷_, _++_}
 use lib.Dec.{eqb}
 use lib.IntN.{pos, negsuc}
 use lib.Ieee.{Float, binary32, ofInt}
-use Rattle.rows.specs.declared.event.Conversion.{Conversion}
-use Rattle.rows.specs.declared.event.Conversion.the-variants.{Turned, Refused}
+use Rattle.events.specs.declared.event.Conversion.{Conversion}
+use Rattle.events.specs.declared.event.Conversion.the-variants.{Turned, Refused}
 use Rattle.rows.specs.declared.fault.Fault.{Fault}
 use Rattle.rows.specs.declared.row.Row.{Row}
-use Rattle.rows.specs.Event.{eventOf, plusZero, readingsOf}
+use Rattle.events.specs.Event.{eventOf, plusZero, readingsOf}
 use Rattle.rows.specs.Row.{flat, pixelRow, triggerRow, countsRow}
 use Rattle.rows.specs.Rules.{Verdict, accepted}
 use Rattle.rows.specs.Runs.{Ending, finished, refused, Run}

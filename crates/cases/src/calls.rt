@@ -13,8 +13,7 @@ use rows::Writing;
 pub(crate) enum Reader {
     Evt2,
     Evt3,
-    RawEvt2,
-    RawEvt3,
+    Raw(Format),
     Dat,
     Aedat,
 }
@@ -55,8 +54,8 @@ pub(crate) fn call_of(place: usize) -> Call {
     match place {
         0 => Call::Read(Reader::Evt2),
         1 => Call::Read(Reader::Evt3),
-        2 => Call::Read(Reader::RawEvt2),
-        3 => Call::Read(Reader::RawEvt3),
+        2 => Call::Read(Reader::Raw(Format::Evt2)),
+        3 => Call::Read(Reader::Raw(Format::Evt3)),
         4 => Call::Read(Reader::Dat),
         5 => Call::Read(Reader::Aedat),
         6 => Call::Read(Reader::Aedat),
@@ -85,8 +84,7 @@ fn read_by(reader: Reader, width: u32, height: u32, input: &[u8], rows: &mut [u3
     match reader {
         Reader::Evt2 => evt2::read(input, width, height, rows),
         Reader::Evt3 => evt3::read(input, width, height, rows),
-        Reader::RawEvt2 => raw::read(input, Format::Evt2, rows),
-        Reader::RawEvt3 => raw::read(input, Format::Evt3, rows),
+        Reader::Raw(format) => raw::read(input, format, rows),
         Reader::Dat => dat::read(input, rows),
         Reader::Aedat => aedat::read(input, rows),
     }

@@ -108,8 +108,14 @@ fn tell_all(line: &[u8], list: &[u32], came: Came) -> bool {
 }
 
 // Calls, and compares: a reader's rows end where the stated ones do, and all numbers are the stated ones.
-fn holds_for(line: &[u8], call: Call, data: &[u32], stated: &[u32], end: usize) -> bool {
-    let form = form_of(call);
+fn holds_for(
+    line: &[u8],
+    call: Call,
+    form: Form,
+    data: &[u32],
+    stated: &[u32],
+    end: usize,
+) -> bool {
     let mut given = [form.given, 2048, 2048];
     let words = column(line, b'|', 1);
     let numbers = part(words, begin(words, b' ', 2), words.len());
@@ -156,5 +162,5 @@ pub(crate) fn holds(line: &[u8]) -> bool {
     if (8192 < to) | (8192 < end) {
         return tell(line, b" does not fit");
     }
-    holds_for(line, call, first(&data, to), &stated, end)
+    holds_for(line, call, form, first(&data, to), &stated, end)
 }

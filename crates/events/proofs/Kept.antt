@@ -1,6 +1,6 @@
 -- Each law of specs/Promises.antt, proved.
 use mathlib.Core.Path.{_≡_, refl, sym, _∙_, ap}
-use Prim.Native.Nat.{ℕ, _-_}
+use Prim.Native.Nat.{ℕ}
 use native.Mathlib.Omega.{arith}
 use mathlib.Core.Bool.{Bool, true, false}
 use lib.Dec.{lit<}
@@ -11,15 +11,15 @@ use Rattle.rows.specs.declared.fault.Fault.the-variants.{BadRow}
 use Rattle.rows.specs.declared.row.Row.{Row}
 use Rattle.rows.specs.declared.rules.Kind.{Kind}
 use Rattle.rows.specs.declared.rules.Kind.the-variants as kind
-use Rattle.events.specs.declared.event.Event.{Event}
-use Rattle.events.specs.declared.event.Conversion.the-variants.{Turned, Refused}
 use Rattle.rows.specs.Row.{timeOf}
 use Rattle.rows.specs.Rules.{kindOf, goodAs, goodRow}
+use Rattle.rows.proofs.GoodRows.{good-by-kind, other-bad}
+use Rattle.events.specs.declared.event.Event.{Event}
+use Rattle.events.specs.declared.event.Conversion.the-variants.{Turned, Refused}
 use Rattle.events.specs.Readings.{signedOf, accelerationOf, isNegative}
 use Rattle.events.specs.Event.{countsEvent, singlesEvent, eventAs, eventOf, eventTime}
 use Rattle.events.specs.Promises.{EventRefused, EventTimed, AccelerationExact, AccelerationOnly, AccelerationZero, RotationRounded, SingleBits}
 use Rattle.events.proofs.Floats as floats
-use Rattle.rows.proofs.GoodRows.{good-by-kind, other-bad}
 use Rattle.events.proofs.OneValue.{one-value}
 
 no-event : {E : Type 0} {e : Event} → Turned e ≡ Refused BadRow → E

@@ -12,12 +12,12 @@ use Rattle.rows.specs.declared.fault.Fault.the-variants.{BadList}
 use Rattle.rows.specs.declared.row.Row.{Row}
 use Rattle.rows.specs.declared.row.RowAt.the-variants.{Found, Nothing}
 use Rattle.rows.specs.declared.rules.Kind.{Kind}
+use Rattle.rows.specs.Row.{timeOf, rowFrom, rowAt}
+use Rattle.rows.specs.Rules.{kindOf, goodRow}
 use Rattle.events.specs.declared.event.Event.{Event}
 use Rattle.events.specs.declared.event.Event.the-variants.{ImuCounts, ImuSingles}
 use Rattle.events.specs.declared.event.Conversion.the-variants.{Turned, Refused}
 use Rattle.events.specs.declared.event.EventNumbers.{EventNumbers}
-use Rattle.rows.specs.Row.{timeOf, rowFrom, rowAt}
-use Rattle.rows.specs.Rules.{kindOf, goodRow}
 use Rattle.events.specs.Readings.{accelerationOf, rotationOf, singleOf}
 use Rattle.events.specs.Event.{countsEvent, singlesEvent, eventAs, eventOf, readingsOf, refusedNumbers, rowNumbers, eventNumbers}
 

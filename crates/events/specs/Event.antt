@@ -10,14 +10,14 @@ use Rattle.rows.specs.declared.fault.Fault.the-variants.{BadRow, BadList}
 use Rattle.rows.specs.declared.row.Row.{Row}
 use Rattle.rows.specs.declared.rules.Kind.{Kind}
 use Rattle.rows.specs.declared.rules.Kind.the-variants as kind
+use Rattle.rows.specs.Fault.{numberOf}
+use Rattle.rows.specs.Row.{timeOf, rowFrom}
+use Rattle.rows.specs.Rules.{kindOf, goodRow}
 use Rattle.events.specs.declared.event.Event.{Event}
 use Rattle.events.specs.declared.event.Event.the-variants.{Pixel, Trigger, ImuCounts, ImuSingles, UsbPacket, Special}
 use Rattle.events.specs.declared.event.Conversion.{Conversion}
 use Rattle.events.specs.declared.event.Conversion.the-variants.{Turned, Refused}
 use Rattle.events.specs.declared.event.EventNumbers.{EventNumbers}
-use Rattle.rows.specs.Fault.{numberOf}
-use Rattle.rows.specs.Row.{timeOf, rowFrom}
-use Rattle.rows.specs.Rules.{kindOf, goodRow}
 use Rattle.events.specs.Readings.{accelerationOf, rotationOf, singleOf}
 
 -- kind 3: accelerations and rotations of the six counts

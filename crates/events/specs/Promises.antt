@@ -7,10 +7,10 @@ use lib.IntN.{pos, natAbs}
 use lib.Ieee.{Float, fin, binary32, fits, toBits, round}
 use Rattle.rows.specs.declared.fault.Fault.the-variants.{BadRow}
 use Rattle.rows.specs.declared.row.Row.{Row}
+use Rattle.rows.specs.Row.{timeOf}
+use Rattle.rows.specs.Rules.{goodRow}
 use Rattle.events.specs.declared.event.Event.{Event}
 use Rattle.events.specs.declared.event.Conversion.the-variants.{Turned, Refused}
-use Rattle.rows.specs.Row.{over, timeOf}
-use Rattle.rows.specs.Rules.{goodRow}
 use Rattle.events.specs.Readings.{signedOf, accelerationOf, rotationOf, singleOf, isNegative, Times}
 use Rattle.events.specs.Event.{eventOf, eventTime}
 

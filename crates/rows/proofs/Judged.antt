@@ -1,13 +1,13 @@
 -- What judging one row after another says of a list that is to be written.
 use mathlib.Core.Path.{_≡_, refl, sym, _∙_, ap, subst}
-use Prim.Native.Nat.{ℕ, suc, _+_, _-_, _*_, _≤_, _<_}
+use Prim.Native.Nat.{ℕ, suc, _+_, _-_, _*_, _%_, _≤_, _<_}
 use native.Mathlib.Numerals.{add-one}
 use native.Mathlib.Omega.{arith}
 use mathlib.Core.Bool.{Bool, true, false, cond, _&&_}
 use mathlib.Core.List.{List, [], _∷_}
 use lib.ListN.{length}
-use lib.Dec.{ltb}
-use borrow.Author.Tests.{lt-ltb, le-ltb, ltb-false}
+use lib.Dec.{ltb, eqb}
+use borrow.Author.Tests.{lt-ltb, le-ltb, ltb-false, eqb-true, leb-true}
 use Rattle.rows.specs.declared.fault.Fault.{Fault}
 use Rattle.rows.specs.declared.fault.Fault.the-variants.{BadTime, BadRow, BadList}
 use Rattle.rows.specs.declared.row.Row.{Row}
@@ -15,6 +15,16 @@ use Rattle.rows.specs.declared.rules.Kind.{Kind}
 use Rattle.rows.specs.declared.rules.Judged.the-variants.{Time, Refused}
 use Rattle.rows.specs.Row.{timeOf, roomOf, rowFrom, rowsFrom, rowsOf}
 use Rattle.rows.specs.Rules.{kindOf, goodAs, goodRow, judgedBy, judgedAs, judgedOf, accepted, refused, verdictThen, verdictFrom, goodLength, verdictOf, Writable}
+use Rattle.rows.proofs.GoodRows.{and-first, and-second}
+
+-- a list whose length is good has whole rows, and not too many
+pub whole-rows : (l : List ℕ) → goodLength (length l) ≡ true → length l % 10 ≡ 0
+unfolding goodLength
+whole-rows l g = eqb-true _ _ (and-first (eqb (length l % 10) 0) _ g)
+
+pub few-rows : (l : List ℕ) → goodLength (length l) ≡ true → roomOf l ≤ 16777216
+unfolding goodLength
+few-rows l g = leb-true _ _ (and-second (eqb (length l % 10) 0) _ g)
 
 -- a row is judged by an answer to whether it is good, joined with whether the format can write it
 module _ (r : Row) {answer good : Bool} (writable : Bool) (last : ℕ) (e : answer ≡ good) where

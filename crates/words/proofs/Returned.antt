@@ -1,17 +1,14 @@
 -- Rows that are written come back, of any format whose words are read as their rows.
 use mathlib.Core.Path.{_≡_, sym, _∙_, ap, ap₂, subst}
-use Prim.Native.Nat.{ℕ, _*_, _%_}
+use Prim.Native.Nat.{ℕ, _*_}
 use mathlib.Core.List.{List}
 use lib.ListN.{length, take}
-use lib.Dec.{eqb}
-use borrow.Author.Tests.{eqb-true}
 use Rattle.rows.specs.declared.fault.Reading.the-variants.{Finished}
 use Rattle.rows.specs.declared.row.Row.{Row}
 use Rattle.rows.specs.Row.{flat, over, roomOf, rowsOf}
-use Rattle.rows.specs.Rules.{accepted, goodLength, verdictOf}
+use Rattle.rows.specs.Rules.{accepted, verdictOf}
 use Rattle.rows.specs.Runs.{Ending, Run, answerOf, Finishes}
-use Rattle.rows.proofs.GoodRows.{and-first}
-use Rattle.rows.proofs.Judged.{accepted-list}
+use Rattle.rows.proofs.Judged.{whole-rows, accepted-list}
 use Rattle.rows.proofs.Kept.{flat-of-rows, over-kept}
 use Rattle.rows.proofs.Lists.{rows-of-length}
 use Rattle.words.specs.RoundTrip.{ReadsBack, ComesBack}
@@ -22,8 +19,7 @@ use Rattle.words.proofs.Writings.{room-exact}
 
 -- the numbers of a writable list are those of its rows
 same-numbers : (s : Spelling) (l : List ℕ) → verdictOf (s .writable) l ≡ accepted → flat (rowsOf l) ≡ l
-unfolding goodLength
-same-numbers s l ok = flat-of-rows l (eqb-true _ _ (and-first (eqb (length l % 10) 0) _ (accepted-list (s .writable) l ok .0)))
+same-numbers s l ok = flat-of-rows l (whole-rows l (accepted-list (s .writable) l ok .0))
 
 -- a buffer that words were written over begins with them
 front : (size : ℕ) (ws out : List ℕ) → take (length ws * size) (over (bytesOfAll size ws) out) ≡ bytesOfAll size ws

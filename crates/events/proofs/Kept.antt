@@ -35,7 +35,6 @@ refused-kind kind.Pixel r e = no-event e
 refused-kind kind.Trigger r e = no-event e
 refused-kind kind.ImuCounts r e = no-event e
 refused-kind kind.ImuSingles r e = no-event e
-refused-kind kind.UsbPacket r e = no-event e
 refused-kind kind.Special r e = no-event e
 refused-kind kind.Other r e = other-bad r
 
@@ -53,7 +52,6 @@ timed-kind kind.Pixel r e p = ap eventTime (sym (same-event p))
 timed-kind kind.Trigger r e p = ap eventTime (sym (same-event p))
 timed-kind kind.ImuCounts r e p = ap eventTime (sym (same-event p))
 timed-kind kind.ImuSingles r e p = ap eventTime (sym (same-event p))
-timed-kind kind.UsbPacket r e p = ap eventTime (sym (same-event p))
 timed-kind kind.Special r e p = ap eventTime (sym (same-event p))
 timed-kind kind.Other r e p = no-event (sym p)
 

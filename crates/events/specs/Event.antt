@@ -1,5 +1,5 @@
 -- The event that a row stands for. 01, "Rows" and "Forms we want to see".
-use Prim.Native.Nat.{ℕ, _+_, _*_}
+use Prim.Native.Nat.{ℕ}
 use mathlib.Core.Bool.{cond}
 use mathlib.Core.List.{List, [], _∷_}
 use lib.ListN.{length, replicate}
@@ -14,7 +14,7 @@ use Rattle.rows.specs.Fault.{numberOf}
 use Rattle.rows.specs.Row.{timeOf, rowFrom}
 use Rattle.rows.specs.Rules.{kindOf, goodRow}
 use Rattle.events.specs.declared.event.Event.{Event}
-use Rattle.events.specs.declared.event.Event.the-variants.{Pixel, Trigger, ImuCounts, ImuSingles, UsbPacket, Special}
+use Rattle.events.specs.declared.event.Event.the-variants.{Pixel, Trigger, ImuCounts, ImuSingles, Special}
 use Rattle.events.specs.declared.event.Conversion.{Conversion}
 use Rattle.events.specs.declared.event.Conversion.the-variants.{Turned, Refused}
 use Rattle.events.specs.declared.event.EventNumbers.{EventNumbers}
@@ -37,7 +37,6 @@ eventAs kind.Pixel r = Turned (Pixel (timeOf r) (r .a) (r .b) (r .c))
 eventAs kind.Trigger r = Turned (Trigger (timeOf r) (r .a) (r .b))
 eventAs kind.ImuCounts r = Turned (countsEvent r)
 eventAs kind.ImuSingles r = Turned (singlesEvent r)
-eventAs kind.UsbPacket r = Turned (UsbPacket (timeOf r) (r .a) (r .b) (r .c * 4294967296 + r .d))
 eventAs kind.Special r = Turned (Special (timeOf r) (r .a) (r .b))
 eventAs kind.Other r = Refused BadRow
 
@@ -51,7 +50,6 @@ eventTime (Pixel t x y p) = t
 eventTime (Trigger t c e) = t
 eventTime (ImuCounts t ax ay az rx ry rz) = t
 eventTime (ImuSingles t ax ay az rx ry rz k p) = t
-eventTime (UsbPacket t f n s) = t
 eventTime (Special t c n) = t
 
 -- a reading that there is not
@@ -64,7 +62,6 @@ readingsOf (Pixel t x y p) = replicate 7 plusZero
 readingsOf (Trigger t c e) = replicate 7 plusZero
 readingsOf (ImuCounts t ax ay az rx ry rz) = ax ∷ ay ∷ az ∷ rx ∷ ry ∷ rz ∷ plusZero ∷ []
 readingsOf (ImuSingles t ax ay az rx ry rz k p) = ax ∷ ay ∷ az ∷ rx ∷ ry ∷ rz ∷ k ∷ []
-readingsOf (UsbPacket t f n s) = replicate 7 plusZero
 readingsOf (Special t c n) = replicate 7 plusZero
 
 -- an event as numbers: refusal 0, the row's kind, time and seven data numbers, and the readings; refused: the number, and else zeros

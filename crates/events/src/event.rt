@@ -57,12 +57,6 @@ pub enum Event {
         temperature: f32,
         patterns: Patterns,
     },
-    UsbPacket {
-        time: u64,
-        flag: u32,
-        count: u32,
-        system: u64,
-    },
     Special {
         time: u64,
         code: u32,
@@ -145,12 +139,6 @@ fn event_as(kind: Kind, row: Row) -> Conversion
         }),
         Kind::ImuCounts => Conversion::Turned(counts_event(row)),
         Kind::ImuSingles => Conversion::Turned(singles_event(row)),
-        Kind::UsbPacket => Conversion::Turned(Event::UsbPacket {
-            time: row.time(),
-            flag: row.a,
-            count: row.b,
-            system: row.c as u64 * 4294967296 + row.d as u64,
-        }),
         Kind::Special => Conversion::Turned(Event::Special {
             time: row.time(),
             code: row.a,
@@ -207,12 +195,6 @@ impl Event {
                 temperature,
                 patterns: _,
             } => [ax, ay, az, rx, ry, rz, temperature],
-            Event::UsbPacket {
-                time: _,
-                flag: _,
-                count: _,
-                system: _,
-            } => [0.0; 7],
             Event::Special {
                 time: _,
                 code: _,

@@ -1,5 +1,5 @@
-// EVT2: words of four bytes; a pixel and a trigger take one each, an IMU reading six, a USB packet five. Source document 002 has the layout, 000 that of IMU readings and USB packets;
-// 01, "EVT2 words" and "Spelling", the rules.
+// EVT2: words of four bytes; a pixel and a trigger take one each, an IMU reading six. Source document 002 has the layout, 000 that of IMU readings;
+// 01, "EVT2 words" and "Spelling", the rules. USB packets, which 000 has too, are passed over (02, R-11).
 //
 //     read(bytes, width, height, rows)     the rows of a stream of words, into a lent slice
 //     write(rows, out)                     the words of a list of rows, into a lent slice

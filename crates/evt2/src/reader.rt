@@ -73,10 +73,6 @@ fn read_words(bytes: &[u8], picture: Picture, rows: &mut [u32]) -> Reading
                                 state = state.imu_evt(place, w);
                                 continue;
                             }
-                            Kind::Others => {
-                                state = state.others(place, w);
-                                continue;
-                            }
                             Kind::Inside => {
                                 state = state.further(w);
                                 continue;

@@ -1,13 +1,13 @@
 // What a reader knows between words, and what each kind of word does with it.
 ghost use mathlib.Core.Path.{_≡_};
 ghost use Prim.Native.Nat.{_%_};
-ghost use Rattle.evt2.specs.State.{fresh, pending, origin, withHigh, begun, further};
-ghost use Rattle.evt2.specs.Words.{kindIn, timeAt, goesBack, imuBegun, packetBegun};
+ghost use Rattle.evt2.specs.State.{fresh, pending, origin, withHigh, further};
+ghost use Rattle.evt2.specs.Words.{kindIn, timeAt, goesBack, imuBegun};
 use crate::kind::Kind;
 
 // What a reader knows between words. The order leaves no gaps between the fields: gaps would be copied with the state.
 pub struct State {
-    // Where the group in hand begins, and its words so far: the last is e, the one before it d.
+    // Where the IMU reading in hand begins, and its words so far: the last is e, the one before it d.
     pub place: usize,
     pub a: u64,
     pub b: u64,
@@ -16,10 +16,8 @@ pub struct State {
     pub e: u64,
     // The high part of the time.
     pub high: u32,
-    // How many words of the group are to come; 0: no group is in hand.
+    // How many words of it are to come; 0: none is in hand.
     pub left: u16,
-    // Whether the group is an IMU reading; if not, a USB packet.
-    pub imu: bool,
     // Whether the high part is known.
     pub known: bool,
 }
@@ -38,7 +36,6 @@ impl State {
             e: 0,
             high: 0,
             left: 0,
-            imu: false,
             known: false,
         }
     }
@@ -96,37 +93,14 @@ impl State {
         self
     }
 
-    // With a group in hand, of which `left` words are to come.
-    fn begun(mut self, imu: bool, left: u16, place: usize, w: u64) -> State
-        ensures { λ r. ⌜ r ≡ begun self imu left place w ⌝ }
-    {
-        self.place = place;
-        self.a = 0;
-        self.b = 0;
-        self.c = 0;
-        self.d = 0;
-        self.e = w;
-        self.left = left;
-        self.imu = imu;
-        self
-    }
-
     // IMU_EVT: an IMU reading begins, if the high part is known.
-    pub(crate) fn imu_evt(self, place: usize, w: u64) -> State
+    pub(crate) fn imu_evt(mut self, place: usize, w: u64) -> State
         ensures { λ r. ⌜ r ≡ imuBegun self place w ⌝ }
     {
         if self.known {
-            return self.begun(true, 5, place, w);
-        }
-        self
-    }
-
-    // OTHERS: a USB packet begins where it is one, also before the clock.
-    pub(crate) fn others(self, place: usize, w: u64) -> State
-        ensures { λ r. ⌜ r ≡ packetBegun self place w ⌝ }
-    {
-        if w % 65536 == 254 {
-            return self.begun(false, 4, place, w);
+            self.place = place;
+            self.e = w;
+            self.left = 5;
         }
         self
     }

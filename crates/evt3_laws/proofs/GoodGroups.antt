@@ -9,13 +9,13 @@ use Rattle.rows.specs.declared.row.Row.{Row}
 use Rattle.rows.specs.Row.{timeOf, triggerRow}
 use Rattle.rows.specs.Rules.{goodRow, Writable}
 use Rattle.rows.specs.Promises.{GoodMade}
-use Rattle.rows.proofs.Kept.{good-is-made}
+use Rattle.rows.proofs.Kept.{good-timely, good-is-made}
 use Rattle.rows.proofs.Lists.{AllNarrow}
 use Rattle.evt3.specs.Spelling.{writable, goesOn, Group, joined, groupsOf, columnsOf}
 use Rattle.evt3.specs.Words.{rowsAt}
 use Rattle.evt3.proofs.Chosen.{Rising}
 use Rattle.evt3.proofs.RowRuns.{goes-on-parts}
-use Rattle.evt3.proofs.WritableRows.{kind-is, pixel-within, trigger-within, in-time}
+use Rattle.evt3.proofs.WritableRows.{kind-is, pixel-within, trigger-within}
 
 -- a row group of a writable list, none of whose rows is before `since`
 pub record Pixels (since : ℕ) (g : Group) : Type 0 where
@@ -52,7 +52,7 @@ module _ (since : ℕ) (r : Row) (good : goodRow r ≡ true) (can : writable r �
       (λ k. inl (record {
         kind = k;
         later = late;
-        time = in-time r can good;
+        time = good-timely r good;
         line = pixel-within r can k .1;
         polarity = made .pixel k .4;
         rising = (omega arith, pixel-within r can k .0, tt);
@@ -62,7 +62,7 @@ module _ (since : ℕ) (r : Row) (good : goodRow r ≡ true) (can : writable r �
         kind = k;
         alone = refl;
         later = late;
-        time = in-time r can good;
+        time = good-timely r good;
         channel = trigger-within r can k;
         edge = made .trigger k .3;
         row = made .trigger k .0;
@@ -82,7 +82,7 @@ module _ (since : ℕ) (r : Row) (good : goodRow r ≡ true) (can : writable r �
           record {
             kind = p .0;
             later = late;
-            time = in-time r can good;
+            time = good-timely r good;
             line = pixel-within r can (p .0) .1;
             polarity = made .pixel (p .0) .4;
             rising = (omega arith, pixel-within r can (p .0) .0, (omega (arith, p .5), s .rising .1, s .rising .2));

@@ -1,15 +1,18 @@
 -- What the row rules say of a row that keeps them, and which rows keep them.
-use mathlib.Core.Path.{_≡_, refl}
-use Prim.Native.Nat.{ℕ, _<_}
+use mathlib.Core.Path.{_≡_, refl, subst}
+use mathlib.Core.Logic.{inl, inr, ⊎-elim}
+use Prim.Native.Nat.{ℕ, zero, suc, _<_}
 use native.Mathlib.Omega.{arith}
 use mathlib.Core.Bool.{Bool, true, false, _&&_}
 use mathlib.Core.List.{List, [], _∷_, _++_}
 use lib.Dec.{ltb}
-use borrow.Author.Tests.{lt-ltb, ltb-true}
+use borrow.Author.Tests.{lt-ltb, ltb-true, ne-eqb}
 use Rattle.rows.specs.declared.row.Row.{Row}
-use Rattle.rows.specs.declared.rules.Kind.the-variants.{ImuCounts, Other}
-use Rattle.rows.specs.Row.{timeOf, timed, pixelRow, triggerRow, countsRow, singlesRow, packetRow, specialRow}
-use Rattle.rows.specs.Rules.{below, unused, timely, kindOf, goodAs, goodRow, AllGood}
+use Rattle.rows.specs.declared.rules.Kind.{Kind}
+use Rattle.rows.specs.declared.rules.Kind.the-variants.{Pixel, Trigger, ImuCounts, ImuSingles, Special, Other}
+use Rattle.rows.specs.Row.{timeOf, timed, pixelRow, triggerRow, countsRow, singlesRow, specialRow}
+use Rattle.rows.specs.Rules.{below, unused, timely, goodPair, kindOf, goodAs, goodRow, AllGood}
+use Rattle.rows.specs.Promises.{Names}
 
 pub and-first : (x y : Bool) → x && y ≡ true → x ≡ true
 and-first true y e = refl
@@ -29,6 +32,39 @@ pub other-bad : (r : Row) → goodAs Other r ≡ false
 unfolding goodAs
 other-bad r = refl
 
+-- past the last kind there is no other
+other-past : (n : ℕ) → 6 < n → kindOf n ≡ Other
+unfolding kindOf
+other-past n h = simp (ne-eqb n 1 (omega arith), ne-eqb n 2 (omega arith), ne-eqb n 3 (omega arith), ne-eqb n 4 (omega arith), ne-eqb n 6 (omega arith))
+
+-- each kind has one number
+named : (n : ℕ) → Names n (kindOf n)
+unfolding kindOf
+named zero = inl refl
+named (suc zero) = refl
+named (suc (suc zero)) = refl
+named (suc (suc (suc zero))) = refl
+named (suc (suc (suc (suc zero)))) = refl
+named (suc (suc (suc (suc (suc zero))))) = inr (inl refl)
+named (suc (suc (suc (suc (suc (suc zero)))))) = refl
+named (suc (suc (suc (suc (suc (suc (suc n))))))) = rw (other-past (suc (suc (suc (suc (suc (suc (suc n))))))) (omega arith)) (inr (inr (omega arith)))
+
+pub kind-named : (n : ℕ) (k : Kind) → kindOf n ≡ k → Names n k
+kind-named n k e = subst (Names n) e (named n)
+
+pub named-kind : (n : ℕ) (k : Kind) → Names n k → kindOf n ≡ k
+unfolding kindOf
+named-kind n Pixel e = rw e
+named-kind n Trigger e = rw e
+named-kind n ImuCounts e = rw e
+named-kind n ImuSingles e = rw e
+named-kind n Special e = rw e
+named-kind n Other e = ⊎-elim (λ z. rw z) (⊎-elim (λ f. rw f) (other-past n)) e
+
+pub five-bad : (r : Row) → r .kind ≡ 5 → goodRow r ≡ false
+unfolding goodRow
+five-bad r e = rw (named-kind (r .kind) Other (inr (inl e))) (other-bad r)
+
 -- each of some numbers below a limit
 abbrev pub Below : ℕ → List ℕ → Type 0
 Below limit [] = Unit {0}
@@ -42,6 +78,24 @@ pub counts-below : (r : Row) → goodAs ImuCounts r ≡ true → Below 65536 (r 
 unfolding goodAs
 counts-below r e =
     below-each 65536 (r .a ∷ r .b ∷ r .c ∷ r .d ∷ r .e ∷ r .f ∷ []) (and-second (timely r) _ (and-first _ (unused (r .g ∷ [])) e))
+
+-- every good row has a time within the limit
+pub good-timely : (r : Row) → goodRow r ≡ true → timeOf r < 17179869184
+unfolding goodRow goodAs
+good-timely r e = ltb-true _ _ (go (kindOf (r .kind)) e)
+  where
+    pair : (first second : ℕ) → goodPair first second r ≡ true → timely r ≡ true
+    pair first second g =
+        and-first (timely r) _ (and-first (timely r && ltb (r .a) first) _ (and-first _ (unused (r .c ∷ r .d ∷ r .e ∷ r .f ∷ r .g ∷ [])) g))
+
+    go : (k : Kind) → goodAs k r ≡ true → timely r ≡ true
+    go Pixel g =
+        and-first (timely r) _ (and-first (timely r && below 32768 (r .a ∷ r .b ∷ [])) _ (and-first _ (unused (r .d ∷ r .e ∷ r .f ∷ r .g ∷ [])) g))
+    go Trigger g = pair 32 2 g
+    go ImuCounts g = and-first (timely r) _ (and-first _ (unused (r .g ∷ [])) g)
+    go ImuSingles g = g
+    go Special g = pair 128 16777216 g
+    go Other g = let z : _≡_ {A = ℕ} 0 1 = cc in absurd (omega arith)
 
 pub all-good-append : (a b : List Row) → AllGood a → AllGood b → AllGood (a ++ b)
 all-good-append [] b h g = g
@@ -78,7 +132,3 @@ module _ (time : ℕ) (h : time < 17179869184) where
   pub special-good : (code content : ℕ) → code < 128 → content < 16777216 → goodRow (specialRow time code content) ≡ true
   unfolding goodRow goodAs kindOf timed
   special-good code content hc hn = simp (timed-timely 6 code content 0 0 0 0 0, lt-ltb _ _ hc, lt-ltb _ _ hn)
-
-pub packet-good : (flag count high low : ℕ) → flag < 2 → goodRow (packetRow flag count high low) ≡ true
-unfolding goodRow goodAs kindOf timed timeOf
-packet-good flag count high low h = simp (lt-ltb _ _ h)

@@ -5,8 +5,9 @@ use native.Mathlib.Omega.{arith}
 use lib.ListN.{length, drop, length-append, length-drop}
 use lib.Seq.{take-append-seam, drop-append-seam}
 use Rattle.rows.specs.Runs.{Ending, finished, refused, resume, andThen}
-use Rattle.rows.specs.Promises.{RowsOfFlat, FlatOfRows, OverKept, MadeGood, GoodIsMade, VerdictWritable, AndThenGrouped}
-use Rattle.rows.proofs.GoodRows.{timed-time, pixel-good, trigger-good, counts-good, singles-good, packet-good, special-good}
+use Rattle.rows.specs.Promises.{RowsOfFlat, FlatOfRows, OverKept, KindsNamed, FiveRefused, GoodTimely, MadeGood, GoodIsMade, VerdictWritable, AndThenGrouped}
+use Rattle.rows.proofs.GoodRows.{kind-named, named-kind, five-bad, timed-time, pixel-good, trigger-good, counts-good, singles-good, special-good}
+use Rattle.rows.proofs.GoodRows as rules
 use Rattle.rows.proofs.Judged.{accepted-writable, writable-accepted}
 use Rattle.rows.proofs.Lists as lists
 use Rattle.rows.proofs.MadeRows.{good-made}
@@ -26,6 +27,15 @@ over-kept =
       long = λ new old h. omega (arith, length-append new (drop (length new) old), length-drop (length new) old);
     }
 
+pub kinds-named : KindsNamed
+kinds-named n k = (kind-named n k, named-kind n k)
+
+pub five-refused : FiveRefused
+five-refused = five-bad
+
+pub good-timely : GoodTimely
+good-timely = rules.good-timely
+
 pub made-good : MadeGood
 made-good =
     record {
@@ -34,7 +44,6 @@ made-good =
       trigger = λ t c e h. trigger-good t h c e;
       counts = λ t ax ay az rx ry rz h. counts-good t h ax ay az rx ry rz;
       singles = λ t ax ay az rx ry rz k h. singles-good t h ax ay az rx ry rz k;
-      packet = packet-good;
       special = λ t c n h. special-good t h c n;
     }
 

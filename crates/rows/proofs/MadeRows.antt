@@ -8,8 +8,8 @@ use lib.Dec.{eqb, ltb}
 use borrow.Author.Tests.{ltb-true, eqb-true}
 use Rattle.rows.specs.declared.row.Row.{Row}
 use Rattle.rows.specs.declared.rules.Kind.{Kind}
-use Rattle.rows.specs.declared.rules.Kind.the-variants.{Pixel, Trigger, ImuCounts, ImuSingles, UsbPacket, Special}
-use Rattle.rows.specs.Row.{timeOf, timed, pixelRow, triggerRow, countsRow, singlesRow, packetRow, specialRow}
+use Rattle.rows.specs.declared.rules.Kind.the-variants.{Pixel, Trigger, ImuCounts, ImuSingles, Special}
+use Rattle.rows.specs.Row.{timeOf, timed, pixelRow, triggerRow, countsRow, singlesRow, specialRow}
 use Rattle.rows.specs.Rules.{below, unused, timely, goodPair, kindOf, goodAs, goodRow}
 use Rattle.rows.specs.Promises.{GoodMade}
 use Rattle.rows.proofs.GoodRows.{and-first, and-second, below-each}
@@ -93,15 +93,6 @@ module _ (r : Row) (good : goodRow r ≡ true) (narrow : r .low < 4294967296) wh
   unfolding goodAs kindOf
   singles-made k = (row-timed r narrow ∙ cc, in-time (of-kind ImuSingles k refl))
 
-  packet-made : r .kind ≡ 5 → (r ≡ packetRow (r .a) (r .b) (r .c) (r .d)) × (r .a < 2)
-  unfolding goodAs kindOf
-  packet-made k =
-      let all : eqb (timeOf r) 0 && ltb (r .a) 2 && unused (r .e ∷ r .f ∷ r .g ∷ []) ≡ true = of-kind UsbPacket k refl in
-      let two = and-first (eqb (timeOf r) 0 && ltb (r .a) 2) _ all in
-      let still : timeOf r ≡ 0 = eqb-true _ _ (and-first (eqb (timeOf r) 0) _ two) in
-      let zero = unused-each (r .e ∷ r .f ∷ r .g ∷ []) (and-second (eqb (timeOf r) 0 && ltb (r .a) 2) _ all) in
-      (row-timed r narrow ∙ cc, ltb-true _ _ (and-second (eqb (timeOf r) 0) _ two))
-
   pub good-made : GoodMade r
   good-made =
-      record { pixel = pixel-made; trigger = trigger-made; counts = counts-made; singles = singles-made; packet = packet-made; special = special-made }
+      record { pixel = pixel-made; trigger = trigger-made; counts = counts-made; singles = singles-made; special = special-made }

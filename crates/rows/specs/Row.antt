@@ -73,7 +73,7 @@ unfoldable pub timed : (kind time a b c d e f g : ℕ) → Row
 timed kind time a b c d e f g =
     record { kind = kind; low = time % 4294967296; high = time / 4294967296; a = a; b = b; c = c; d = d; e = e; f = f; g = g }
 
--- the six kinds, each with its numbers in order
+-- the five kinds, each with its numbers in order; 5 was the USB packet, and is not given to another kind
 abbrev pub pixelRow : (time x y polarity : ℕ) → Row
 pixelRow time x y polarity = timed 1 time x y polarity 0 0 0 0
 
@@ -85,9 +85,6 @@ countsRow time ax ay az rx ry rz = timed 3 time ax ay az rx ry rz 0
 
 abbrev pub singlesRow : (time ax ay az rx ry rz temperature : ℕ) → Row
 singlesRow time ax ay az rx ry rz temperature = timed 4 time ax ay az rx ry rz temperature
-
-abbrev pub packetRow : (flag count high low : ℕ) → Row
-packetRow flag count high low = timed 5 0 flag count high low 0 0 0
 
 abbrev pub specialRow : (time code content : ℕ) → Row
 specialRow time code content = timed 6 time code content 0 0 0 0 0

@@ -9,20 +9,19 @@ use Rattle.rows.specs.declared.fault.Fault.{Fault}
 use Rattle.rows.specs.declared.fault.Fault.the-variants.{BadTime, BadRow, BadList}
 use Rattle.rows.specs.declared.row.Row.{Row}
 use Rattle.rows.specs.declared.rules.Kind.{Kind}
-use Rattle.rows.specs.declared.rules.Kind.the-variants.{Pixel, Trigger, ImuCounts, ImuSingles, UsbPacket, Special, Other}
+use Rattle.rows.specs.declared.rules.Kind.the-variants.{Pixel, Trigger, ImuCounts, ImuSingles, Special, Other}
 use Rattle.rows.specs.declared.rules.Judged.{Judged}
 use Rattle.rows.specs.declared.rules.Judged.the-variants.{Time, Refused}
 use Rattle.rows.specs.Row.{timeOf, rowsOf}
 
--- the kinds 1 to 6
+-- the kinds 1 to 4 and 6. 02, R-11: 5 was the USB packet; the number is not given to another kind
 unfoldable pub kindOf : ℕ → Kind
 kindOf n =
     cond (eqb n 1) Pixel
     (cond (eqb n 2) Trigger
     (cond (eqb n 3) ImuCounts
     (cond (eqb n 4) ImuSingles
-    (cond (eqb n 5) UsbPacket
-    (cond (eqb n 6) Special Other)))))
+    (cond (eqb n 6) Special Other))))
 
 -- unused data are 0
 abbrev pub unused : List ℕ → Bool
@@ -52,8 +51,6 @@ goodAs Trigger r = goodPair 32 2 r
 goodAs ImuCounts r = timely r && below 65536 (r .a ∷ r .b ∷ r .c ∷ r .d ∷ r .e ∷ r .f ∷ []) && unused (r .g ∷ [])
 -- the bits of seven singles: any
 goodAs ImuSingles r = timely r
--- time 0, flag 0 or 1; any count and system time
-goodAs UsbPacket r = eqb (timeOf r) 0 && ltb (r .a) 2 && unused (r .e ∷ r .f ∷ r .g ∷ [])
 -- type to 127, data below 2^24
 goodAs Special r = goodPair 128 16777216 r
 -- no other kind is good

@@ -3,7 +3,7 @@ ghost use mathlib.Core.Path.{_≡_};
 ghost use Prim.Native.Nat.{_+_, _≤_};
 ghost use lib.ListN.{length};
 ghost use lib.Seq.{sets};
-ghost use Rattle.rows.specs.Row.{timeOf, roomOf, rowAt, PutRow, timed, pixelRow, triggerRow, countsRow, singlesRow, packetRow, specialRow};
+ghost use Rattle.rows.specs.Row.{timeOf, roomOf, rowAt, PutRow, timed, pixelRow, triggerRow, countsRow, singlesRow, specialRow};
 
 // A row: its kind, its time mod 2^32 and div 2^32, and seven numbers of the kind's own, unused ones 0.
 pub struct Row {
@@ -79,13 +79,6 @@ impl Row {
         ensures { λ r. ⌜ r ≡ singlesRow time ax ay az rx ry rz temperature ⌝ }
     {
         timed(4, time, ax, ay, az, rx, ry, rz, temperature)
-    }
-
-    // Kind 5: a USB packet; its system time has two halves of its own, and its row time is 0.
-    pub fn usb_packet(flag: u32, count: u32, high: u32, low: u32) -> Row
-        ensures { λ r. ⌜ r ≡ packetRow flag count high low ⌝ }
-    {
-        timed(5, 0, flag, count, high, low, 0, 0, 0)
     }
 
     // Kind 6: a special event of a type with 24 bits of data.

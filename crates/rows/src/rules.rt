@@ -6,13 +6,12 @@ ghost use Rattle.rows.specs.Rules.{kindOf, unused, below, timely, goodPa
 use crate::fault::Fault;
 use crate::row::Row;
 
-// The six kinds of rows, and every other number.
+// The kinds of rows, 1 to 4 and 6, and every other number. 5 was the USB packet, and is never used again.
 pub enum Kind {
     Pixel,
     Trigger,
     ImuCounts,
     ImuSingles,
-    UsbPacket,
     Special,
     Other,
 }
@@ -33,7 +32,6 @@ impl Kind {
             2 => Kind::Trigger,
             3 => Kind::ImuCounts,
             4 => Kind::ImuSingles,
-            5 => Kind::UsbPacket,
             6 => Kind::Special,
             _ => Kind::Other,
         }
@@ -88,14 +86,6 @@ fn is_imu_counts(row: Row) -> bool
     timely & below & (row.g == 0)
 }
 
-fn is_usb_packet(row: Row) -> bool
-    ensures { λ r. ⌜ r ≡ goodAs Kind.UsbPacket row ⌝ }
-{
-    let time = row.time();
-    let unused = are_unused(0, 0, row.e, row.f, row.g);
-    (time == 0) & (row.a < 2) & unused
-}
-
 // Whether a row keeps the rules of a kind.
 fn good_as(kind: Kind, row: Row) -> bool
     ensures { λ r. ⌜ r ≡ goodAs kind row ⌝ }
@@ -105,7 +95,6 @@ fn good_as(kind: Kind, row: Row) -> bool
         Kind::Trigger => is_pair(row, 32, 2),
         Kind::ImuCounts => is_imu_counts(row),
         Kind::ImuSingles => is_timely(row),
-        Kind::UsbPacket => is_usb_packet(row),
         Kind::Special => is_pair(row, 128, 16777216),
         Kind::Other => false,
     }

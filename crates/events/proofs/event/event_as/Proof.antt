@@ -1,6 +1,5 @@
 -- `events::event::event_as` meets its contract.
 use Rattle.events.specs.Event.{eventAs}
-use borrow.Author.Needs.{needs}
 use Rattle.events.proofs.event.event_as.Statement.{statement}
 use Rattle.events.proofs.event.event_as.Tie as tie
 
@@ -34,26 +33,8 @@ enum-told-5 c = c .match .keys5
 time-requires-3 : tie.Need-time-requires-3
 time-requires-3 c κs = tt
 
-cast-t11 : tie.Need-cast-t11
-cast-t11 c = search needs
-
-mul-t12 : tie.Need-mul-t12
-mul-t12 c = search needs
-
-cast-t13 : tie.Need-cast-t13
-cast-t13 c = search needs
-
-add-t14 : tie.Need-add-t14
-add-t14 c = search needs
-
 enum-told-6 : tie.Need-enum-told-6
 enum-told-6 c = c .match .keys6
-
-time-requires-4 : tie.Need-time-requires-4
-time-requires-4 c κs = tt
-
-enum-told-7 : tie.Need-enum-told-7
-enum-told-7 c = c .match .keys7
 
 returns : tie.Need-returns
 unfolding eventAs
@@ -73,15 +54,11 @@ returns-4 c = rw (c .before .enum-told4 .given .1, c .singles-event .ensures)
 
 returns-5 : tie.Need-returns-5
 unfolding eventAs
-returns-5 c = rw (c .before .before .before .enum-told5 .given .1, c .before .before .time3 .ensures)
+returns-5 c = rw (c .before .enum-told5 .given .1, c .time3 .ensures)
 
 returns-6 : tie.Need-returns-6
 unfolding eventAs
-returns-6 c = rw (c .before .enum-told6 .given .1, c .time4 .ensures)
-
-returns-7 : tie.Need-returns-7
-unfolding eventAs
-returns-7 c = rw (c .enum-told7 .given .1)
+returns-6 c = rw (c .enum-told6 .given .1)
 
 pub event-as-spec : {M : Type 1} → statement M
 event-as-spec =
@@ -97,17 +74,10 @@ event-as-spec =
     singles-event-requires
     enum-told-5
     time-requires-3
-    cast-t11
-    mul-t12
-    cast-t13
-    add-t14
     enum-told-6
-    time-requires-4
-    enum-told-7
     returns
     returns-2
     returns-3
     returns-4
     returns-5
-    returns-6
-    returns-7)
+    returns-6)

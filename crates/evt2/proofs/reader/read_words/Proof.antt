@@ -5,7 +5,7 @@ use Rattle.evt2.specs.Words.{givenAs, nextAs, step}
 use Rattle.evt2.specs.State.{fresh}
 use Rattle.evt2.specs.declared.state.State.{State}
 use Rattle.evt2.specs.declared.kind.Kind.{Kind}
-use Rattle.evt2.specs.declared.kind.Kind.the-variants.{TimeHigh, ImuEvt, Others, Inside}
+use Rattle.evt2.specs.declared.kind.Kind.the-variants.{TimeHigh, ImuEvt, Inside}
 use Rattle.words.proofs.Wrote.{gave-length}
 use Rattle.words.proofs.Between.{Between, between-start, between-length, between-room, found, ends-whole, ends-pending, ends-part}
 use Rattle.words.proofs.Between.{word-in, goes-on-gave, ends-gave-full, ends-gave}
@@ -237,32 +237,20 @@ loop-again-2 c = after-kind (c .before .before .before) ImuEvt (c .before .enum-
 enum-told-6 : tie.Need-enum-told-6 Inv-loop μ-loop
 enum-told-6 c = c .match3 .keys3
 
-others-requires : tie.Need-others-requires Inv-loop μ-loop
-others-requires c κs = tt
+further-requires : tie.Need-further-requires Inv-loop μ-loop
+further-requires c κs = tt
 
 loop-less-3 : tie.Need-loop-less-3 Inv-loop μ-loop
 loop-less-3 c = omega (arith, word-fits (c .before .before .before))
 
 loop-again-3 : tie.Need-loop-again-3 Inv-loop μ-loop
-loop-again-3 c = after-kind (c .before .before .before) Others (c .before .enum-told6 .given .1) (c .others .ensures)
-
-enum-told-7 : tie.Need-enum-told-7 Inv-loop μ-loop
-enum-told-7 c = c .match3 .keys4
-
-further-requires : tie.Need-further-requires Inv-loop μ-loop
-further-requires c κs = tt
+loop-again-3 c = after-kind (c .before .before .before) Inside (c .before .enum-told6 .given .1) (c .further .ensures)
 
 loop-less-4 : tie.Need-loop-less-4 Inv-loop μ-loop
-loop-less-4 c = omega (arith, word-fits (c .before .before .before))
+loop-less-4 c = omega (arith, word-fits (c .before))
 
 loop-again-4 : tie.Need-loop-again-4 Inv-loop μ-loop
-loop-again-4 c = after-kind (c .before .before .before) Inside (c .before .enum-told7 .given .1) (c .further .ensures)
-
-loop-less-5 : tie.Need-loop-less-5 Inv-loop μ-loop
-loop-less-5 c = omega (arith, word-fits (c .before))
-
-loop-again-5 : tie.Need-loop-again-5 Inv-loop μ-loop
-loop-again-5 c = after-word (c .before) (stays _ _ _ (kind (atGave (c .before))) (c .match3 .keys5))
+loop-again-4 c = after-word (c .before) (stays _ _ _ (kind (atGave (c .before))) (c .match3 .keys4))
 
 pub read-words-spec : {M : Type 1} → statement M
 read-words-spec =
@@ -307,12 +295,8 @@ read-words-spec =
     loop-less-2
     loop-again-2
     enum-told-6
-    others-requires
+    further-requires
     loop-less-3
     loop-again-3
-    enum-told-7
-    further-requires
     loop-less-4
-    loop-again-4
-    loop-less-5
-    loop-again-5)
+    loop-again-4)

@@ -30,17 +30,11 @@ is-timely-requires c κs = tt
 enum-told-5 : tie.Need-enum-told-5
 enum-told-5 c = c .match .keys5
 
-is-usb-packet-requires : tie.Need-is-usb-packet-requires
-is-usb-packet-requires c κs = tt
-
-enum-told-6 : tie.Need-enum-told-6
-enum-told-6 c = c .match .keys6
-
 is-pair-requires-2 : tie.Need-is-pair-requires-2
 is-pair-requires-2 c κs = tt
 
-enum-told-7 : tie.Need-enum-told-7
-enum-told-7 c = c .match .keys7
+enum-told-6 : tie.Need-enum-told-6
+enum-told-6 c = c .match .keys6
 
 returns : tie.Need-returns
 unfolding goodAs
@@ -60,15 +54,11 @@ returns-4 c = rw (c .before .enum-told4 .given .1) (c .is-timely .ensures)
 
 returns-5 : tie.Need-returns-5
 unfolding goodAs
-returns-5 c = rw (c .before .enum-told5 .given .1) (c .is-usb-packet .ensures)
+returns-5 c = rw (c .before .enum-told5 .given .1) (c .is-pair2 .ensures)
 
 returns-6 : tie.Need-returns-6
 unfolding goodAs
-returns-6 c = rw (c .before .enum-told6 .given .1) (c .is-pair2 .ensures)
-
-returns-7 : tie.Need-returns-7
-unfolding goodAs
-returns-7 c = rw (c .enum-told7 .given .1)
+returns-6 c = rw (c .enum-told6 .given .1)
 
 pub good-as-spec : {M : Type 1} → statement M
 good-as-spec =
@@ -83,14 +73,11 @@ good-as-spec =
     enum-told-4
     is-timely-requires
     enum-told-5
-    is-usb-packet-requires
-    enum-told-6
     is-pair-requires-2
-    enum-told-7
+    enum-told-6
     returns
     returns-2
     returns-3
     returns-4
     returns-5
-    returns-6
-    returns-7)
+    returns-6)

@@ -17,9 +17,6 @@ enum-known-self-2 c = c .match .keys4
 enum-told-3 : tie.Need-enum-told-3
 enum-told-3 c = c .match .keys5
 
-enum-told-4 : tie.Need-enum-told-4
-enum-told-4 c = c .match .keys6
-
 returns : tie.Need-returns
 returns c = rw (c .enum-told .given .1)
 
@@ -35,9 +32,6 @@ returns-4 c = rw (c .before .self2 .given .1)
 returns-5 : tie.Need-returns-5
 returns-5 c = rw (c .enum-told3 .given .1)
 
-returns-6 : tie.Need-returns-6
-returns-6 c = rw (c .enum-told4 .given .1)
-
 pub readings-spec : {M : Type 1} → statement M
 readings-spec =
     tie.close
@@ -47,10 +41,8 @@ readings-spec =
     enum-known-self
     enum-known-self-2
     enum-told-3
-    enum-told-4
     returns
     returns-2
     returns-3
     returns-4
-    returns-5
-    returns-6)
+    returns-5)

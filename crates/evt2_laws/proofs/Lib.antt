@@ -1,4 +1,5 @@
 -- Lemmas, and the laws proved (Kept).
+pub mod ByKind
 pub mod GoodRead
 pub mod Kept
 pub mod Places

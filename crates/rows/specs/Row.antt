@@ -59,6 +59,11 @@ rowsFrom l i (suc n) = rowFrom l (i * 10) ∷ rowsFrom l (suc i) n
 unfoldable pub rowsOf : List ℕ → List Row
 rowsOf l = rowsFrom l 0 (roomOf l)
 
+-- those rows of a list that a test holds of, in order
+abbrev pub only : (Row → Bool) → List Row → List Row
+only test [] = []
+only test (r ∷ rs) = cond (test r) (r ∷ only test rs) (only test rs)
+
 -- numbers of 32 bits, as every slice of them holds
 abbrev pub Narrow : List ℕ → Type 0
 Narrow l = (i : ℕ) → getD l i 0 < 4294967296

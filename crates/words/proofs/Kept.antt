@@ -2,11 +2,12 @@
 use mathlib.Core.Path.{_∙_, ap}
 use Rattle.words.specs.Words.{Words, wordsOf}
 use Rattle.words.specs.Machine.{run}
-use Rattle.words.specs.Promises.{FieldSmall, FieldPlaced, FieldParts, TypeFound, TypeBelow, FieldBytes, RoomRefused, WordsBack, RunTwoParts, RowsFit, RowsGood, PlacesWithin, RoundTrip}
+use Rattle.words.specs.Promises.{FieldSmall, FieldPlaced, FieldParts, TypeFound, TypeBelow, FieldBytes, RoomRefused, WordsBack, RunTwoParts, RowsFit, RowsGood, PlacesWithin, KeptUp, RoundTrip}
 use Rattle.words.proofs.BitFields as fields
 use Rattle.words.proofs.ByteFields as byteFields
 use Rattle.words.proofs.Bytes as bytes
 use Rattle.words.proofs.Cut.{words-join}
+use Rattle.words.proofs.KeptUp.{read-beside}
 use Rattle.words.proofs.Places.{reading-within}
 use Rattle.words.proofs.Returned.{comes-back}
 use Rattle.words.proofs.RowsGiven.{reading-fits, reading-good}
@@ -50,6 +51,9 @@ rows-good S m Kept k ws s place room h = reading-good m k ws s place room h
 
 pub places-within : PlacesWithin
 places-within S m Kept k bytes s at room h g = reading-within m k bytes s at room h g
+
+pub kept-up : KeptUp
+kept-up S T m n test Alike k bytes s t at room a r e = read-beside k bytes s t at room a e
 
 pub round-trip : RoundTrip
 round-trip S s readingOf law = comes-back s readingOf law

@@ -6,6 +6,7 @@ pub mod ByteFields
 pub mod Bytes
 pub mod Cut
 pub mod Kept
+pub mod KeptUp
 pub mod Places
 pub mod ReadBack
 pub mod Returned

@@ -1,12 +1,13 @@
 -- A machine that reads words, over any state: what a word does, and what a run of words gives.
 use mathlib.Core.Path.{_≡_}
 use Prim.Native.Nat.{ℕ, _+_, _≤_}
-use mathlib.Core.Bool.{Bool, cond}
+use mathlib.Core.Bool.{Bool, false, cond}
 use mathlib.Core.List.{List, []}
 use lib.ListN.{drop}
 use Rattle.rows.specs.declared.fault.Fault.{Fault}
 use Rattle.rows.specs.declared.fault.Fault.the-variants.{Cut}
 use Rattle.rows.specs.declared.row.Row.{Row}
+use Rattle.rows.specs.Row.{only}
 use Rattle.rows.specs.Rules.{AllGood}
 use Rattle.rows.specs.Runs.{finished, refused, Run, stopped, give, andThen}
 use Rattle.words.specs.Words.{Words, word, whole, part, wordsOf}
@@ -77,3 +78,17 @@ pub record Keeps {S : Type 0} (m : Machine S) (Kept : S → Type 0) : Type 0 whe
 pub record Follows {S : Type 0} (m : Machine S) (Kept : S → ℕ → Type 0) : Type 0 where
   pub origin : (s : S) (place : ℕ) → Kept s place → m .origin s place ≤ place
   pub step : (s : S) (place w : ℕ) (s′ : S) (new : List Row) → Kept s place → m .step s place w ≡ next s′ new → Kept s′ (place + m .size)
+
+-- a machine takes a word, gives these rows, and comes to a state that a property holds of
+pub record Takes {S : Type 0} (m : Machine S) (s : S) (place w : ℕ) (new : List Row) (Then : S → Type 0) : Type 0 where
+  pub state : S
+  pub step : m .step s place w ≡ next state new
+  pub holds : Then state
+
+-- one machine keeps up with another: from states that are alike it takes each word that the other takes, to states that are alike, gives
+-- those of its rows that a test holds of, and has no group in hand where the other has none
+pub record KeepsUp {S T : Type 0} (m : Machine S) (n : Machine T) (test : Row → Bool) (Alike : S → T → Type 0) : Type 0 where
+  pub size : n .size ≡ m .size
+  pub step : (s : S) (t : T) (place w : ℕ) (s′ : S) (new : List Row) → Alike s t → m .step s place w ≡ next s′ new
+      → Takes n t place w (only test new) (Alike s′)
+  pub pending : (s : S) (t : T) → Alike s t → m .pending s ≡ false → n .pending t ≡ false

@@ -1,14 +1,17 @@
 -- The laws of this crate, each proved in proofs/Kept.antt under the name in lower case.
 use mathlib.Core.Path.{_≡_}
 use Prim.Native.Nat.{ℕ, _+_, _*_, _/_, _^_, _≤_, _<_}
+use mathlib.Core.Bool.{Bool}
 use mathlib.Core.List.{List, [], _∷_, _++_}
 use lib.ListN.{length, take, drop, getD}
 use Rattle.rows.specs.declared.fault.Fault.the-variants.{NoRoom}
+use Rattle.rows.specs.declared.row.Row.{Row}
+use Rattle.rows.specs.Row.{only}
 use Rattle.rows.specs.Rules.{AllGood, accepted, refused, verdictOf}
-use Rattle.rows.specs.Runs.{Run, andThen, EndsWithin}
+use Rattle.rows.specs.Runs.{finished, Run, andThen, EndsWithin, Finishes}
 use Rattle.words.specs.Words.{value, Words, word, wordsOf, bytesOfAll}
 use Rattle.words.specs.Fields.{field, typed, placed}
-use Rattle.words.specs.Machine.{Machine, run, reading, readFrom, Keeps, Follows}
+use Rattle.words.specs.Machine.{Machine, Reached, run, reading, readFrom, Keeps, Follows, KeepsUp}
 use Rattle.words.specs.RoundTrip.{ReadsBack, ComesBack}
 use Rattle.words.specs.Writer.{Spelling, spelled, writingVerdict}
 
@@ -77,6 +80,12 @@ RowsGood = (S : Type 0) (m : Machine S) (Kept : S → Type 0) → Keeps m Kept �
 abbrev pub PlacesWithin : Type 1
 PlacesWithin = (S : Type 0) (m : Machine S) (Kept : S → ℕ → Type 0) → Follows m Kept → (bytes : List ℕ) (s : S) (at room : ℕ) → Kept s at → at ≤ length bytes
     → EndsWithin (readFrom m bytes s at room .ending) (length bytes)
+
+-- a machine that keeps up with another finishes what the other finishes, in equal room, with those of its rows that the test holds of
+abbrev pub KeptUp : Type 1
+KeptUp = (S T : Type 0) (m : Machine S) (n : Machine T) (test : Row → Bool) (Alike : S → T → Type 0) → KeepsUp m n test Alike
+    → (bytes : List ℕ) (s : S) (t : T) (at room : ℕ) → Alike s t → (r : Reached S) → readFrom m bytes s at room .ending ≡ finished r
+    → Finishes (readFrom n bytes t at room) (only test (readFrom m bytes s at room .rows))
 
 -- 01, demand 2: of every format whose words are read as their rows, the writer's promise and the reader's together bring every list back
 abbrev pub RoundTrip : Type 1

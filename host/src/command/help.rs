@@ -76,7 +76,7 @@ Prints a line for each row, of ten numbers: kind, time mod 4294967296, time div 
   4 IMU singles   the bits of seven singles: as kind 3, then the temperature
   6 special       type, data
 
-No row has kind 5: USB packets among EVT2 words give no row.
+There is no kind 5. USB packets among EVT2 words give no row.
 
   --events        the same in words, with the time in microseconds and IMU readings in g, degrees a second and degrees Celsius;
                   the point in a reading is a decimal point

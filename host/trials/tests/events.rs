@@ -1,10 +1,8 @@
 //! `fry_event_of` against the second implementation: every count, both sides of every limit, and many rows at random.
 use fryskelom::{event_of, Refusal};
 use trials::samples::{row, Numbers};
+use trials::second::rows::KINDS;
 use trials::{numbers, second};
-
-/// The kinds of rows. Number 5 was that of USB packets, and no other kind ever gets it.
-const KINDS: [u32; 5] = [1, 2, 3, 4, 6];
 
 /// Holds the library's answer to the second implementation's, number by number; a NaN reading is to be a NaN.
 fn compare(row: &[u32]) -> u64 {

@@ -21,7 +21,7 @@ fn hand_written(bytes: &[u8], width: u32, height: u32, rows: &mut [u32]) -> Answ
 struct Reached {
     /// Words that gave no row, and those that gave one, by type.
     words: [[usize; 16]; 2],
-    /// Cut words, up to three, and cut IMU groups, from four on, by the bytes that are there.
+    /// Cut words and, from four bytes on, cut IMU groups, by the bytes that are there.
     cut: [usize; 24],
     /// Words that do not continue an IMU group, by their place in it and by their type.
     strays: [[usize; 16]; 6],

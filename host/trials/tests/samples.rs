@@ -7,10 +7,7 @@ use std::fs;
 use std::path::PathBuf;
 use trials::in_repository;
 use trials::samples::recordings::RECORDINGS;
-use trials::second::rows::{time_of, Row};
-
-/// The kinds of rows. Number 5 was that of USB packets, and no other kind ever gets it.
-const KINDS: [u32; 5] = [1, 2, 3, 4, 6];
+use trials::second::rows::{time_of, Row, KINDS};
 
 struct Sample {
     name: &'static str,

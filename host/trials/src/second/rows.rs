@@ -7,6 +7,9 @@ const TIMES: u64 = 1 << 34;
 /// The most rows of a list that is written.
 pub const MOST_ROWS: usize = 16_777_216;
 
+/// The kinds of rows. 5 was a USB packet, which gives no row since R-11; no other kind ever gets the number.
+pub const KINDS: [u32; 5] = [1, 2, 3, 4, 6];
+
 /// The number of values that each of a kind's seven data numbers may take, from 0 on; nothing where there is no such kind.
 pub fn limits(kind: u32) -> Option<[u64; 7]> {
     const ANY: u64 = 1 << 32;
@@ -20,8 +23,6 @@ pub fn limits(kind: u32) -> Option<[u64; 7]> {
         3 => Some([65_536, 65_536, 65_536, 65_536, 65_536, 65_536, NONE]),
         // the bits of seven singles of an IMU
         4 => Some([ANY; 7]),
-        // 5 was a USB packet, which gives no row since R-11; no other kind ever gets the number
-        5 => None,
         // a special event: type, data
         6 => Some([128, 1 << 24, NONE, NONE, NONE, NONE, NONE]),
         _ => None,

@@ -31,6 +31,8 @@ typedef struct {
 
 /* The event of a row: its kind, its time in microseconds, the row's own seven numbers, and for an IMU the readings
  * (acceleration X, Y, Z in g, rotation X, Y, Z in degrees a second, temperature), +0 where there are none.
+ * The kind is 1 (pixel), 2 (trigger), 3 (IMU counts), 4 (IMU singles) or 6 (special). 5 was that of USB packets, which give no
+ * row since R-11: a row of it is not good, and the number is never used again.
  * Refused: all else is 0. A NaN's payload stands in data alone. */
 typedef struct {
     uint64_t refusal, kind, time;
@@ -46,9 +48,9 @@ fry_event fry_event_of(const uint32_t *row, size_t len);
  * none. What lies past the finished rows is not touched, refused or not.
  * Refused before any word, with no rows and place 0: 1, then 14. */
 
-/* Reads the EVT2 words of a recording. Refused at a word, in this order: 4, 3, 5, 6, 2. Inside an IMU or USB group a word is
- * refused 4, where the group begins, or 8, where the word stands that does not continue it; a whole group without room is
- * refused 2, where the group begins. */
+/* Reads the EVT2 words of a recording. Refused at a word, in this order: 4, 3, 5, 6, 2. Inside an IMU group a word is refused 4,
+ * where the group begins, or 8, where the word stands that does not continue it; a whole group without room is refused 2, where
+ * the group begins. OTHERS are passed over, also those that begin a USB packet, and so are CONTINUED outside an IMU group. */
 fry_reading fry_read_evt2(const uint8_t *bytes, size_t bytes_len, uint32_t width, uint32_t height, uint32_t *rows, size_t rows_len);
 
 /* Reads the EVT3 words of a recording. Refused at a word, in this order: 4, 3, 7, 5, 6, 2. A high part of the time that is lower than the one

@@ -76,7 +76,7 @@ impl Error for RowFault {}
 /// The event of a row.
 #[derive(Clone, Copy, Debug)]
 pub struct Event {
-    /// 1 pixel, 2 trigger, 3 IMU counts, 4 IMU singles, 5 USB packet, 6 special.
+    /// 1 pixel, 2 trigger, 3 IMU counts, 4 IMU singles, 6 special. Number 5 was that of USB packets, and no other kind ever gets it.
     pub kind: u64,
     /// Microseconds.
     pub time: u64,

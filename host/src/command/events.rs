@@ -1,26 +1,23 @@
 //! Rows as events that a person can read. Readings are the library's: nothing is computed here.
 use fryskelom::{event_of, Event};
 
-/// A row's event: time, kind, and its values by name. A USB packet has no time.
+/// A row's event: time, kind, and its values by name.
 pub fn line(row: &[u32]) -> String {
     let event = event_of(row).expect("every row that a reader finishes is good");
-    match event.kind {
-        5 => format!("USB packet {}", values(&event)),
-        kind => format!("{} µs {} {}", event.time, KINDS[kind as usize - 1], values(&event)),
-    }
+    let (_, name) = KINDS.iter().find(|(kind, _)| *kind == event.kind).expect("the kind of a good row");
+    format!("{} µs {name} {}", event.time, values(&event))
 }
 
-/// The kinds of rows, from 1 on.
-pub const KINDS: [&str; 6] = ["pixel", "trigger", "IMU counts", "IMU singles", "USB packet", "special"];
+/// The kinds of rows. Number 5 was that of USB packets, which give no row since R-11; no other kind ever gets it.
+pub const KINDS: [(u64, &str); 5] = [(1, "pixel"), (2, "trigger"), (3, "IMU counts"), (4, "IMU singles"), (6, "special")];
 
 fn values(event: &Event) -> String {
-    let [a, b, c, d, ..] = event.data;
+    let [a, b, c, ..] = event.data;
     match event.kind {
         1 => format!("x {a} y {b} {}", ["darker", "brighter"][c as usize]),
         2 => format!("channel {a} {}", ["falling", "rising"][b as usize]),
         3 => motion(event),
         4 => format!("{} temperature {} °C", motion(event), event.readings[6]),
-        5 => format!("flag {a} sequence count {b} system time {}", u64::from(c) << 32 | u64::from(d)),
         _ => format!("type {a} data {b}"),
     }
 }

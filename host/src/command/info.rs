@@ -34,16 +34,16 @@ fn about_rows(recording: &Recording, reading: &Reading) -> Vec<String> {
     let summary = Summary::of(reading.numbers());
     let part = if reading.stop.is_some() { " before the reading stopped" } else { "" };
     let mut lines = vec![format!("events: {}{part}", reading.rows())];
-    lines.extend(KINDS.iter().zip(summary.kinds).map(|(kind, events)| format!("    {kind}: {events}")));
+    lines.extend(KINDS.map(|(kind, name)| format!("    {name}: {}", summary.kinds[kind as usize])));
     lines.extend(summary.times());
     lines.extend(recording.format.wrap.map(|wrap| summary.wraps(wrap)));
     lines
 }
 
-/// How many rows there are of each kind, and the smallest and the largest time.
+/// How many rows there are of each kind, by its number, and the smallest and the largest time.
 #[derive(Default)]
 struct Summary {
-    kinds: [usize; 6],
+    kinds: [usize; 7],
     times: Option<(u64, u64)>,
 }
 
@@ -51,13 +51,10 @@ impl Summary {
     fn of(numbers: &[u32]) -> Summary {
         let mut summary = Summary::default();
         for row in numbers.chunks_exact(10) {
-            summary.kinds[row[0] as usize - 1] += 1;
-            // a USB packet has no time
-            if row[0] != 5 {
-                let time = time_of(row);
-                let (first, last) = summary.times.unwrap_or((time, time));
-                summary.times = Some((first.min(time), last.max(time)));
-            }
+            summary.kinds[row[0] as usize] += 1;
+            let time = time_of(row);
+            let (first, last) = summary.times.unwrap_or((time, time));
+            summary.times = Some((first.min(time), last.max(time)));
         }
         summary
     }

@@ -40,7 +40,7 @@ const RULES: [Rule; REFUSALS] = [
     },
     Rule { found: "the bit of a slave camera is set", reading: "record from one camera", writing: "" },
     Rule {
-        found: "a word inside an IMU or USB group does not continue it",
+        found: "a word inside an IMU group does not continue it",
         reading: "words were lost at this place: record again, or use the rows before it",
         writing: "",
     },

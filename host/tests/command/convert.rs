@@ -29,7 +29,7 @@ fn reading_back() {
     assert_eq!(files(&folder), ["out", "recording"]);
 }
 
-/// The EVT2 words without the packet, and in the order of time: clock, trigger, IMU reading and pixel.
+/// The EVT2 words without the USB packet, and in the order of time: clock, trigger, IMU reading and pixel.
 fn in_order() -> Vec<u8> {
     let words = evt2_words();
     [&words[20..24], &words[28..], &words[24..28]].concat()
@@ -46,6 +46,15 @@ fn the_report() {
     let run = run_on(&folder, &evt3_words(), &["convert", "recording", "a file", "--format=evt3", "--to=evt3"]).good();
     assert_eq!(run.text(), format!("a file: written; rows: 5, evt3 words: 12, bytes: 24\n{BACK} evt3\n"));
     assert_eq!(super::run::run(&folder, &["rows", "a file", "--format", "evt3"]).good().text(), EVT3_ROWS);
+}
+
+/// A USB packet gives no row, so that it is not written either.
+#[test]
+fn usb_packets_are_left_out() {
+    let folder = folder("usb-packets");
+    let recording = [&evt2_words()[..20], &in_order()].concat();
+    run_on(&folder, &recording, &["convert", "recording", "out", "--format=evt2", "--to=evt2"]).good();
+    assert_eq!(fs::read(folder.join("out")).expect("it was written"), in_order());
 }
 
 #[test]
@@ -80,21 +89,22 @@ fn the_most_words_for_a_row() {
 }
 
 /// A recording, its format, the words asked for, and the message.
-fn refused() -> [(Vec<u8>, &'static str, &'static str, String); 5] {
+fn refused() -> [(Vec<u8>, &'static str, &'static str, String); 6] {
     let unwritable = "refused 12: a bad row, or one that the format cannot write";
     let other = "what to do: try the other words, or use the rows as ./fryskelom rows prints them: EVT2 holds pixels below 2048 by 2048, triggers and IMU counts, \
                  EVT3 such pixels and triggers of channels 0 to 15";
     let imu = "65 µs IMU counts acceleration x 1 y -2 z 0 g rotation x 1 y 0 z -0.007633588 °/s";
+    let back = "refused 5: a time goes back, is negative or passes the limit";
+    let order =
+        "what to do: rows are written in the order of time alone, and those of this recording are not in it: use them as ./fryskelom rows prints them";
     let step_back = evt3::bytes_of(&[0x8001, 0x6002, 0xa001, 0x6001, 0xa000]);
+    let special = [aedat::START, aedat::END, &aedat::packet(aedat::SPECIAL, 0, &[aedat::special(7, 5, 9)])].concat();
     [
         (
-            evt2_words(),
+            special,
+            "aedat",
             "evt2",
-            "evt2",
-            format!(
-                "{unwritable}\nat row 0 of recording (counted from 0): USB packet flag 1 sequence count 3 system time 4294967300; \
-                 nothing was written\n{other}\n"
-            ),
+            format!("{unwritable}\nat row 0 of recording (counted from 0): 7 µs special type 5 data 9; nothing was written\n{other}\n"),
         ),
         (in_order(), "evt2", "evt3", format!("{unwritable}\nat row 1 of recording (counted from 0): {imu}; nothing was written\n{other}\n")),
         (
@@ -103,14 +113,18 @@ fn refused() -> [(Vec<u8>, &'static str, &'static str, String); 5] {
             "evt3",
             format!("{unwritable}\nat row 1 of recording (counted from 0): 12500100 µs pixel x 16383 y 479 darker; nothing was written\n{other}\n"),
         ),
+        // the USB packet before the pixel is no row
+        (
+            evt2_words(),
+            "evt2",
+            "evt2",
+            format!("{back}\nat row 1 of recording (counted from 0): 64 µs trigger channel 6 rising; nothing was written\n{order}\n"),
+        ),
         (
             step_back,
             "evt3",
             "evt3",
-            "refused 5: a time goes back, is negative or passes the limit\n\
-             at row 1 of recording (counted from 0): 4097 µs trigger channel 0 falling; nothing was written\n\
-             what to do: rows are written in the order of time alone, and those of this recording are not in it: use them as ./fryskelom rows prints them\n"
-                .to_string(),
+            format!("{back}\nat row 1 of recording (counted from 0): 4097 µs trigger channel 0 falling; nothing was written\n{order}\n"),
         ),
         (
             evt3_words()[..21].to_vec(),

@@ -10,12 +10,11 @@ size: 56 bytes
 header: none
 picture width: 2048 pixels, the limit, since no --width is given
 picture height: 480 pixels
-events: 4
+events: 3
     pixel: 1
     trigger: 1
     IMU counts: 1
     IMU singles: 0
-    USB packet: 1
     special: 0
 first time: 64 µs
 last time: 66 µs
@@ -36,7 +35,6 @@ events: 5
     trigger: 1
     IMU counts: 0
     IMU singles: 0
-    USB packet: 0
     special: 0
 first time: 4098 µs
 last time: 33554433 µs
@@ -57,7 +55,6 @@ events: 2
     trigger: 0
     IMU counts: 0
     IMU singles: 0
-    USB packet: 0
     special: 0
 first time: 100 µs
 last time: 12500100 µs
@@ -79,7 +76,6 @@ events: 4
     trigger: 1
     IMU counts: 0
     IMU singles: 1
-    USB packet: 0
     special: 1
 first time: 100 µs
 last time: 4294967596 µs
@@ -101,13 +97,12 @@ fn every_format() {
     }
 }
 
-const NO_TIMES: &str = "\
-events: 1
+const NO_EVENTS: &str = "\
+events: 0
     pixel: 0
     trigger: 0
     IMU counts: 0
     IMU singles: 0
-    USB packet: 1
     special: 0
 first time: none
 last time: none
@@ -115,9 +110,9 @@ span: none
 ";
 
 #[test]
-fn a_packet_has_no_time() {
-    let run = run_on(&folder("no-times"), &inputs::evt2_words()[..20], &["info", "recording", "--format", "evt2"]).good();
-    assert!(run.text().ends_with(NO_TIMES), "{run:?}");
+fn a_usb_packet_is_no_event() {
+    let run = run_on(&folder("no-events"), &inputs::evt2_words()[..20], &["info", "recording", "--format", "evt2"]).good();
+    assert!(run.text().ends_with(NO_EVENTS), "{run:?}");
 }
 
 /// Of EVT3 words alone, bare or in a RAW file, and of the part before a refusal too.

@@ -3,7 +3,7 @@ use trials::samples::aedat::{imu6, packet, polarity, special, END, IMU6, POLARIT
 use trials::samples::dat::{event, TYPE_AND_SIZE};
 use trials::samples::{evt2, evt3};
 
-/// EVT2 words: a USB packet before the clock, a pixel, a trigger and an IMU reading.
+/// EVT2 words: a USB packet, which gives no row, before the clock, a pixel, a trigger and an IMU reading.
 pub fn evt2_words() -> Vec<u8> {
     let packet = [0xe000_00fe, 0xf000_8000, 0xf000_0003, 0xf000_0010, 0xf000_0004];
     let reading = [0xd040_8000, 0xf041_0000, 0xf040_0000, 0xf040_0106, 0xf040_0000, 0xf041_fffe];
@@ -11,14 +11,12 @@ pub fn evt2_words() -> Vec<u8> {
 }
 
 pub const EVT2_ROWS: &str = "\
-5 0 0 1 3 1 4 0 0 0
 1 66 0 5 3 1 0 0 0 0
 2 64 0 6 1 0 0 0 0 0
 3 65 0 16384 32768 0 131 0 65535 0
 ";
 
 pub const EVT2_EVENTS: &str = "\
-USB packet flag 1 sequence count 3 system time 4294967300
 66 µs pixel x 5 y 3 brighter
 64 µs trigger channel 6 rising
 65 µs IMU counts acceleration x 1 y -2 z 0 g rotation x 1 y 0 z -0.007633588 °/s

@@ -1,6 +1,7 @@
 //! `fry_event_of` against the second implementation: every count, both sides of every limit, and many rows at random.
 use fryskelom::{event_of, Refusal};
-use trials::samples::Numbers;
+use trials::samples::{row, Numbers};
+use trials::second::rows::KINDS;
 use trials::{numbers, second};
 
 /// Holds the library's answer to the second implementation's, number by number; a NaN reading is to be a NaN.
@@ -40,8 +41,8 @@ fn each_reading_from_its_own_count() {
 
 #[test]
 fn both_sides_of_every_limit() {
-    for kind in 1..=6u32 {
-        let limits = second::rows::limits(kind);
+    for kind in KINDS {
+        let limits = second::rows::limits(kind).expect("the limits of a kind");
         assert_eq!(compare(&[kind, 0, 0, 0, 0, 0, 0, 0, 0, 0]), 0);
         for i in 0..7 {
             let mut row = [kind, 0, 0, 0, 0, 0, 0, 0, 0, 0];
@@ -54,14 +55,29 @@ fn both_sides_of_every_limit() {
                 assert_eq!(compare(&row), 12, "kind {kind}, number {i} far over its limit");
             }
         }
-        let last = [kind, u32::MAX, 3, 0, 0, 0, 0, 0, 0, 0];
-        assert_eq!(compare(&last), if kind == 5 { 12 } else { 0 }, "kind {kind}, the last time");
+        assert_eq!(compare(&[kind, u32::MAX, 3, 0, 0, 0, 0, 0, 0, 0]), 0, "kind {kind}, the last time");
         assert_eq!(compare(&[kind, 0, 4, 0, 0, 0, 0, 0, 0, 0]), 12, "kind {kind}, past the last time");
-        assert_eq!(compare(&[kind, 1, 0, 0, 0, 0, 0, 0, 0, 0]), if kind == 5 { 12 } else { 0 }, "kind {kind}, time 1");
-        assert_eq!(compare(&[kind, 0, 1, 0, 0, 0, 0, 0, 0, 0]), if kind == 5 { 12 } else { 0 }, "kind {kind}, time 2^32");
+        assert_eq!(compare(&[kind, 1, 0, 0, 0, 0, 0, 0, 0, 0]), 0, "kind {kind}, time 1");
+        assert_eq!(compare(&[kind, 0, 1, 0, 0, 0, 0, 0, 0, 0]), 0, "kind {kind}, time 2^32");
     }
-    for kind in [0, 7, 8, 255, 256, 65_537, u32::MAX] {
+    for kind in [0, 5, 7, 8, 255, 256, 65_537, u32::MAX] {
         assert_eq!(compare(&[kind, 0, 0, 0, 0, 0, 0, 0, 0, 0]), 12, "kind {kind}");
+    }
+}
+
+/// No row has kind 5, whatever else it holds: what the row of a USB packet held, at time 0, and what good rows of each kind hold, at any time.
+#[test]
+fn no_kind_5() {
+    let mut numbers = Numbers::new(0x6d2b_79f5_a3c1_e84b);
+    for _ in 0..100_000 {
+        let packet = [numbers.below(2), numbers.any(), numbers.any(), numbers.any(), 0, 0, 0];
+        assert_eq!(compare(&row(5, 0, packet)), 12);
+        for kind in KINDS {
+            let limits = second::rows::limits(kind).expect("the limits of a kind");
+            let time = u64::from(numbers.below(4)) << 32 | u64::from(numbers.any());
+            let data = limits.map(|limit| (u64::from(numbers.any()) % limit) as u32);
+            assert_eq!([kind, 5].map(|kind| compare(&row(kind, time, data))), [0, 12]);
+        }
     }
 }
 
@@ -108,20 +124,19 @@ fn rows_at_random() {
     let mut reached = [[0u32; 2]; 8];
     for _ in 0..2_000_000 {
         let kind = numbers.any() % 8;
-        let limits = if (1..=6).contains(&kind) { second::rows::limits(kind) } else { [1; 7] };
+        let limits = second::rows::limits(kind).unwrap_or([1; 7]);
         let mut row = [kind, 0, 0, 0, 0, 0, 0, 0, 0, 0];
         for i in 0..7 {
             // mostly within the limits, so that good rows are not rare
             row[3 + i] = if numbers.once_in(16) { numbers.near(limits[i]) } else { (u64::from(numbers.any()) % limits[i]) as u32 };
         }
-        if kind != 5 || numbers.once_in(16) {
-            row[1] = numbers.any();
-            row[2] = if numbers.once_in(16) { numbers.near(4) } else { numbers.any() % 4 };
-        }
+        row[1] = numbers.any();
+        row[2] = if numbers.once_in(16) { numbers.near(4) } else { numbers.any() % 4 };
         let refusal = compare(&row);
         reached[kind as usize][usize::from(refusal != 0)] += 1;
     }
-    for (kind, [good, bad]) in reached.into_iter().enumerate().skip(1).take(6) {
-        assert!(good > 10_000 && bad > 5_000, "kind {kind}: {good} good and {bad} bad");
+    for (kind, [good, bad]) in (0..).zip(reached) {
+        let enough = if KINDS.contains(&kind) { good > 10_000 } else { good == 0 };
+        assert!(enough && bad > 5_000, "kind {kind}: {good} good and {bad} bad");
     }
 }

@@ -37,8 +37,8 @@ impl writers::Reached for Reached {
         7 * rows.len()
     }
 
-    fn limits(kind: u32) -> [u64; 7] {
-        limits(kind).map(|limit| if limit == 32_768 { 2_048 } else { limit })
+    fn limits(kind: u32) -> Option<[u64; 7]> {
+        Some(limits(kind)?.map(|limit| if limit == 32_768 { 2_048 } else { limit }))
     }
 
     fn a_list(most_events: u32, numbers: &mut Numbers) -> Vec<Row> {

@@ -57,12 +57,13 @@ impl writers::Reached for Reached {
         4 * rows.len() + 2 * (last / WRAP) as usize
     }
 
-    fn limits(kind: u32) -> [u64; 7] {
-        limits(kind).map(|limit| match limit {
+    fn limits(kind: u32) -> Option<[u64; 7]> {
+        let limits = limits(kind)?.map(|limit| match limit {
             32_768 => 2_048,
             32 => 16,
             _ => limit,
-        })
+        });
+        Some(limits)
     }
 
     fn a_list(most_events: u32, numbers: &mut Numbers) -> Vec<Row> {

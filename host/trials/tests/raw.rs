@@ -28,7 +28,7 @@ impl Reached for Evt2 {
 
     fn faults() -> Vec<Vec<u8>> {
         const PIXEL: [u32; 2] = [0x8000_0001, 0x1080_2803];
-        // room alone; 3; 5; 6 by x and by y; 8, a cut group, 8 in a USB packet; groups that may lack room
+        // room alone; 3; 5; 6 by x and by y; 8, a cut group, 8 at a USB packet; 3 after USB packets, whole and cut; a group that may lack room
         let words: [&[u32]; 10] = [
             &[0x1080_2803, 0xa000_0601],
             &[0x2000_0000],
@@ -37,8 +37,8 @@ impl Reached for Evt2 {
             &[0x0000_2830],
             &[0xd080_0002, 0xf080_0004, 0x1080_2803],
             &[0xd080_0002, 0xf080_0004],
-            &[0xe000_00fe, 0x2000_0000],
-            &[0xe000_00fe, 0xf000_8000, 0xf000_0003, 0xf000_0000, 0xf000_0004],
+            &[0xd080_0002, 0xf080_0004, 0xe000_00fe, 0xf000_8000, 0xf000_0003, 0xf000_0000, 0xf000_0004],
+            &[0xe000_00fe, 0xf000_8000, 0xf000_0003, 0xf000_0000, 0xf000_0004, 0xe000_00fe, 0x2000_0000],
             &[0xd080_0002, 0xf080_0004, 0xf080_0006, 0xf080_0008, 0xf080_000a, 0xf080_000c],
         ];
         with_parts(words.map(|words| evt2::bytes_of(&[&PIXEL, words].concat())))

@@ -8,7 +8,7 @@ use formats::{Format, AEDAT, DAT, EVT2, EVT3, RAW_EVT2, RAW_EVT3};
 use fryskelom::{read_evt2, read_evt3, Fault};
 use std::path::{Path, PathBuf};
 use std::{env, fs};
-use trials::samples::row;
+use trials::samples::{imu, pixel, row, trigger};
 use trials::second::rows::{time_of, Row, MOST_ROWS};
 use trials::second::words::{Reading, Writing, SIDE};
 use trials::{in_repository, numbers, second};
@@ -135,10 +135,15 @@ fn kept_inputs() {
     compare_folder(&in_repository(KEPT));
 }
 
+/// What is read of a kept recording.
+fn read_kept(format: &Format, name: &str) -> Reading {
+    let path = in_repository(KEPT).join(name);
+    format.compare(&path, &fs::read(&path).expect("a kept recording"), MOST_ROOM)
+}
+
 /// Which of the kept recordings whose high part falls are refused, where, and after how many rows.
 #[test]
 fn falling_high_parts() {
-    let folder = in_repository(KEPT);
     let cases = [
         ("one", (5, 1, 8)),
         ("2047", (5, 1, 8)),
@@ -147,9 +152,40 @@ fn falling_high_parts() {
         ("one-after-all-wraps", (5, 1, 4_100)),
     ];
     for (fall, answer) in cases {
-        let path = folder.join(format!("high-part-falls-by-{fall}.evt3"));
-        let reading = EVT3.compare(&path, &fs::read(&path).expect("a kept recording"), MOST_ROOM);
-        assert_eq!((reading.refusal, reading.rows.len(), reading.place), answer, "{}", path.display());
+        let reading = read_kept(&EVT3, &format!("high-part-falls-by-{fall}.evt3"));
+        assert_eq!((reading.refusal, reading.rows.len(), reading.place), answer, "high part falls by {fall}");
+    }
+}
+
+/// The words of USB packets are passed over, whatever their bits are and wherever a packet ends: they give no row and begin no group. Only inside an
+/// IMU group is a packet refused, as is all else that does not continue the group.
+#[test]
+fn usb_packets() {
+    const PIXEL: Row = pixel(66, 5, 3, 1);
+    const IMU: Row = imu(66, [1, 2, 3, 4, 5, 6]);
+    let cases: [(&str, (u64, usize), &[Row]); 9] = [
+        // one before the clock and one at the end
+        ("usb-packet-before-the-clock.evt2", (0, 0), &[PIXEL]),
+        // bits above the subtype are not looked at
+        ("usb-packet-with-upper-bits-set.evt2", (0, 0), &[PIXEL]),
+        // without its last word it is none the worse
+        ("usb-packet-cut.evt2", (0, 0), &[PIXEL]),
+        // a word that is cut is refused where it stands, and not where the packet begins
+        ("usb-packet-cut-inside-a-word.evt2", (4, 16), &[PIXEL]),
+        // a high part and a pixel amid its words are read, and the rest are CONTINUED outside a group
+        ("usb-packet-with-stray.evt2", (0, 0), &[PIXEL, PIXEL]),
+        // an IMU group in place of its last two words is read
+        ("usb-packet-cut-by-imu-group.evt2", (0, 0), &[PIXEL, IMU]),
+        // its first word does not continue an IMU group
+        ("usb-packet-inside-imu-group.evt2", (8, 16), &[PIXEL]),
+        // any other OTHERS is passed over likewise
+        ("others-of-another-subtype.evt2", (0, 0), &[PIXEL, PIXEL]),
+        // before the clock, between events and between IMU groups of a RAW file, whose header has a line manual_events
+        ("usb-packets-after-header.raw", (0, 0), &[PIXEL, trigger(64, 6, 1), IMU, IMU]),
+    ];
+    for (name, fault, rows) in cases {
+        let reading = read_kept(if name.ends_with(".raw") { &RAW_EVT2 } else { &EVT2 }, name);
+        assert_eq!(((reading.refusal, reading.place), &reading.rows[..]), (fault, rows), "{name}");
     }
 }
 

@@ -7,30 +7,30 @@ use std::fs;
 use std::path::PathBuf;
 use trials::in_repository;
 use trials::samples::recordings::RECORDINGS;
-use trials::second::rows::{time_of, Row};
+use trials::second::rows::{time_of, Row, KINDS};
 
 struct Sample {
     name: &'static str,
     format: Format,
     /// How many rows there are of each kind.
-    rows: [usize; 6],
-    /// The first time and the last. USB packets have none.
+    rows: [usize; 5],
+    /// The first time and the last.
     times: Option<(u64, u64)>,
     /// The refusal and its place.
     fault: Option<(u64, usize)>,
 }
 
 const SAMPLES: [Sample; 10] = [
-    Sample { name: "gate-relay-evt3.raw", format: RAW_EVT3, rows: [4_245, 1, 0, 0, 0, 0], times: Some((0, 89_604)), fault: None },
-    Sample { name: "brake-relay-evt2.raw", format: RAW_EVT2, rows: [3_268, 1, 0, 0, 0, 0], times: Some((0, 109_441)), fault: None },
-    Sample { name: "gate-relay.dat", format: DAT, rows: [4_245, 0, 0, 0, 0, 0], times: Some((0, 89_604)), fault: None },
-    Sample { name: "brake-relay.aedat", format: AEDAT, rows: [6_576, 2, 0, 18, 0, 0], times: Some((0, 178_595)), fault: None },
-    Sample { name: "clock-wrap.evt3", format: EVT3, rows: [4_225, 1, 0, 0, 0, 0], times: Some((16_737_216, 16_817_039)), fault: None },
-    Sample { name: "brake-relay-imu.evt2", format: EVT2, rows: [3_268, 1, 110, 0, 2, 0], times: Some((0, 109_441)), fault: None },
-    Sample { name: "cut-inside-a-word.evt3", format: EVT3, rows: [2_593, 1, 0, 0, 0, 0], times: Some((0, 55_537)), fault: Some((4, 6_000)) },
-    Sample { name: "reserved-word.evt2", format: EVT2, rows: [1_327, 1, 0, 0, 0, 0], times: Some((0, 75_473)), fault: Some((3, 6_000)) },
-    Sample { name: "clock-goes-back.raw", format: RAW_EVT3, rows: [68, 1, 0, 0, 0, 0], times: Some((0, 65_296)), fault: Some((5, 544)) },
-    Sample { name: "comma-in-width.raw", format: RAW_EVT3, rows: [0; 6], times: None, fault: Some((9, 37)) },
+    Sample { name: "gate-relay-evt3.raw", format: RAW_EVT3, rows: [4_245, 1, 0, 0, 0], times: Some((0, 89_604)), fault: None },
+    Sample { name: "brake-relay-evt2.raw", format: RAW_EVT2, rows: [3_268, 1, 0, 0, 0], times: Some((0, 109_441)), fault: None },
+    Sample { name: "gate-relay.dat", format: DAT, rows: [4_245, 0, 0, 0, 0], times: Some((0, 89_604)), fault: None },
+    Sample { name: "brake-relay.aedat", format: AEDAT, rows: [6_576, 2, 0, 18, 0], times: Some((0, 178_595)), fault: None },
+    Sample { name: "clock-wrap.evt3", format: EVT3, rows: [4_225, 1, 0, 0, 0], times: Some((16_737_216, 16_817_039)), fault: None },
+    Sample { name: "brake-relay-imu.evt2", format: EVT2, rows: [3_268, 1, 110, 0, 0], times: Some((0, 109_441)), fault: None },
+    Sample { name: "cut-inside-a-word.evt3", format: EVT3, rows: [2_593, 1, 0, 0, 0], times: Some((0, 55_537)), fault: Some((4, 6_000)) },
+    Sample { name: "reserved-word.evt2", format: EVT2, rows: [1_327, 1, 0, 0, 0], times: Some((0, 75_473)), fault: Some((3, 6_000)) },
+    Sample { name: "clock-goes-back.raw", format: RAW_EVT3, rows: [68, 1, 0, 0, 0], times: Some((0, 65_296)), fault: Some((5, 544)) },
+    Sample { name: "comma-in-width.raw", format: RAW_EVT3, rows: [0; 5], times: None, fault: Some((9, 37)) },
 ];
 
 /// The times of a coil's edge, its direction, and the first pixel of the armature that follows.
@@ -70,10 +70,11 @@ fn every_file_is_read() {
     assert_eq!(SAMPLES.map(|sample| sample.name), RECORDINGS.map(|(name, _)| name));
     for sample in SAMPLES {
         let (rows, fault) = read(&sample);
-        let times = || rows.iter().filter(|row| row[0] != 5).map(time_of);
+        let times = || rows.iter().map(time_of);
         let times = times().min().zip(times().max());
-        let of_kind = |kind| rows.iter().filter(|row| row[0] == kind).count();
-        assert_eq!(([1, 2, 3, 4, 5, 6].map(of_kind), times, fault), (sample.rows, sample.times, sample.fault), "{}", sample.name);
+        let kinds = KINDS.map(|kind| rows.iter().filter(|row| row[0] == kind).count());
+        assert_eq!((kinds, times, fault), (sample.rows, sample.times, sample.fault), "{}", sample.name);
+        assert_eq!(kinds.iter().sum::<usize>(), rows.len(), "{}: rows of other kinds", sample.name);
     }
 }
 

@@ -5,8 +5,6 @@ use std::slice::IterMut;
 
 const STRAY: Refusal = Refusal(8);
 
-const USB_PACKET: u32 = 0xfe;
-
 type Word = [u8; 4];
 
 /// A refusal, and how many words after the first one its place is.
@@ -56,7 +54,6 @@ impl Reader<'_> {
             0x8 => self.time_high(word & 0x0fff_ffff).map_err(at_first)?,
             0xa => self.trigger(word).map_err(at_first)?,
             0xd => return self.imu(word, next),
-            0xe if word & 0xffff == USB_PACKET => return self.usb_packet(next),
             0xe | 0xf => {}
             _ => return Err(at_first(RESERVED)),
         }
@@ -99,27 +96,19 @@ impl Reader<'_> {
     fn imu<'w>(&mut self, word: u32, next: &'w [Word]) -> Result<&'w [Word], Stop> {
         let Some([low, high]) = self.time(word) else { return Ok(next) };
         let (continued, next) = continued(next)?;
-        let [b, c, d, e, f] = continued.map(|word| word >> 1 & 0xffff);
+        let [b, c, d, e, f] = continued.map(|word| u32::from_le_bytes(word) >> 1 & 0xffff);
         *self.rows.next().ok_or(at_first(NO_ROOM))? = [3, low, high, word >> 1 & 0xffff, b, c, d, e, f, 0];
-        Ok(next)
-    }
-
-    fn usb_packet<'w>(&mut self, next: &'w [Word]) -> Result<&'w [Word], Stop> {
-        let ([first, second, third, fourth], next) = continued(next)?;
-        let count = first >> 16 << 20 | second & 0xf_ffff;
-        let time = u64::from(second >> 20) << 56 | u64::from(third) << 28 | u64::from(fourth);
-        *self.rows.next().ok_or(at_first(NO_ROOM))? = [5, 0, 0, first >> 15 & 1, count, (time >> 32) as u32, time as u32, 0, 0, 0];
         Ok(next)
     }
 }
 
-/// The data of the next N words, which have to be CONTINUED, and what follows them.
+/// The next five words, which have to be CONTINUED, and what follows them.
 #[inline(always)]
-fn continued<const N: usize>(words: &[Word]) -> Result<([u32; N], &[Word]), Stop> {
-    let stray = words.iter().take(N).position(|word| word[3] < 0xf0);
+fn continued(words: &[Word]) -> Result<([Word; 5], &[Word]), Stop> {
+    let stray = words.iter().take(5).position(|word| word[3] < 0xf0);
     match (stray, words.split_first_chunk()) {
         (Some(index), _) => Err((STRAY, 1 + index)),
-        (None, Some((group, next))) => Ok((group.map(|word| u32::from_le_bytes(word) & 0x0fff_ffff), next)),
+        (None, Some((&group, next))) => Ok((group, next)),
         (None, None) => Err(at_first(CUT)),
     }
 }

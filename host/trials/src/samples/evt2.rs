@@ -6,7 +6,7 @@ use super::{imu, pixel, trigger, Numbers, Picture, LAST_TIME};
 pub enum Scene {
     /// Moving points: nothing but pixels.
     Pixels,
-    /// The same; in a recording the driver has put USB packets between them, the first before the clock.
+    /// The same; in a recording the driver has put USB packets between them, which give no row, the first before the clock.
     Packets,
     /// A relay: triggers among few pixels.
     Triggers,

@@ -109,7 +109,8 @@ fn clock_wrap() -> Vec<u8> {
     evt3_words(&rows(&[movement], (WRAP - 40_000, WRAP + 40_000), &mut numbers()))
 }
 
-/// The brake relay again, with the camera's IMU read every millisecond. The driver has put a USB packet's start and end around the words.
+/// The brake relay again, with the camera's IMU read every millisecond. The driver has put a USB packet's start and end around the words; they
+/// give no row.
 fn brake_relay_imu() -> Vec<u8> {
     let mut rows = brake_relay();
     rows.extend((0..110).map(|millisecond| imu(1_000 * millisecond, shaken(millisecond))));

@@ -1,4 +1,4 @@
-//! The reader and the writer of EVT2 words. The reader looks ahead: where a group begins, it takes all of its words at once, so that no
+//! The reader and the writer of EVT2 words. The reader looks ahead: where an IMU group begins, it takes all of its words at once, so that no
 //! group is ever half read.
 use super::rows::{row, time_of, Row};
 use super::words::{self, number, refusal_before_words, Format, Reading, Writing};
@@ -11,9 +11,6 @@ const IMU: u32 = 13;
 const OTHERS: u32 = 14;
 const CONTINUED: u32 = 15;
 const TYPES: [u32; 7] = [OFF, ON, TIME_HIGH, TRIGGER, IMU, OTHERS, CONTINUED];
-
-/// The subtype of OTHERS that begins a USB packet.
-const USB_PACKET: u32 = 0xfe;
 
 #[derive(Clone, Copy)]
 struct Word(u32);
@@ -37,10 +34,10 @@ impl Word {
 
     /// How many CONTINUED belong to this word. Before the clock an IMU word stands alone.
     fn continued(self, high: Option<u64>) -> usize {
-        match self.kind() {
-            IMU if high.is_some() => 5,
-            OTHERS if self.bits(15, 0) == USB_PACKET => 4,
-            _ => 0,
+        if self.kind() == IMU && high.is_some() {
+            5
+        } else {
+            0
         }
     }
 }
@@ -99,9 +96,6 @@ fn group_at(bytes: &[u8], place: usize, high: Option<u64>) -> Result<Vec<Word>, 
 /// The row that a word gives with the CONTINUED that belong to it.
 fn row_of(group: &[Word], high: Option<u64>) -> Option<Row> {
     let first = group[0];
-    if first.kind() == OTHERS {
-        return usb_packet(group);
-    }
     let time = 64 * high? + u64::from(first.bits(27, 22));
     match first.kind() {
         OFF | ON => Some(row(1, time, &[first.bits(21, 11), first.bits(10, 0), first.kind()])),
@@ -109,15 +103,6 @@ fn row_of(group: &[Word], high: Option<u64>) -> Option<Row> {
         IMU => Some(row(3, time, &group.iter().map(|word| word.bits(16, 1)).collect::<Vec<_>>())),
         _ => None,
     }
-}
-
-/// The row of a USB packet; OTHERS of another subtype has no words after it and gives none.
-fn usb_packet(group: &[Word]) -> Option<Row> {
-    let &[_, first, second, third, fourth] = group else { return None };
-    let count = first.bits(27, 16) * 2u32.pow(20) + second.bits(19, 0);
-    let [top, middle, bottom] = [second.bits(27, 20), third.bits(27, 0), fourth.bits(27, 0)].map(u64::from);
-    let time = (top * 2u64.pow(28) + middle) * 2u64.pow(28) + bottom;
-    Some(row(5, 0, &[first.bits(15, 15), count, (time / 2u64.pow(32)) as u32, (time % 2u64.pow(32)) as u32]))
 }
 
 /// Writes a list of numbers into a buffer of so many bytes.

@@ -7,29 +7,26 @@ const TIMES: u64 = 1 << 34;
 /// The most rows of a list that is written.
 pub const MOST_ROWS: usize = 16_777_216;
 
-/// For each kind 1 to 6 the number of values that each of its seven data numbers may take, from 0 on.
-const LIMITS: [[u64; 7]; 6] = {
+/// The kinds of rows. 5 was a USB packet, which gives no row since R-11; no other kind ever gets the number.
+pub const KINDS: [u32; 5] = [1, 2, 3, 4, 6];
+
+/// The number of values that each of a kind's seven data numbers may take, from 0 on; nothing where there is no such kind.
+pub fn limits(kind: u32) -> Option<[u64; 7]> {
     const ANY: u64 = 1 << 32;
     const NONE: u64 = 1;
-    [
-        // x, y, polarity
-        [32_768, 32_768, 2, NONE, NONE, NONE, NONE],
-        // channel, edge
-        [32, 2, NONE, NONE, NONE, NONE, NONE],
-        // six counts
-        [65_536, 65_536, 65_536, 65_536, 65_536, 65_536, NONE],
-        // the bits of seven singles
-        [ANY; 7],
-        // flag, sequence count, the halves of the system time
-        [2, ANY, ANY, ANY, NONE, NONE, NONE],
-        // type, data
-        [128, 1 << 24, NONE, NONE, NONE, NONE, NONE],
-    ]
-};
-
-/// The limits of a kind's data numbers, for tests that stand on either side of each.
-pub fn limits(kind: u32) -> [u64; 7] {
-    LIMITS[kind as usize - 1]
+    match kind {
+        // a pixel: x, y, polarity
+        1 => Some([32_768, 32_768, 2, NONE, NONE, NONE, NONE]),
+        // a trigger: channel, edge
+        2 => Some([32, 2, NONE, NONE, NONE, NONE, NONE]),
+        // six counts of an IMU
+        3 => Some([65_536, 65_536, 65_536, 65_536, 65_536, 65_536, NONE]),
+        // the bits of seven singles of an IMU
+        4 => Some([ANY; 7]),
+        // a special event: type, data
+        6 => Some([128, 1 << 24, NONE, NONE, NONE, NONE, NONE]),
+        _ => None,
+    }
 }
 
 /// The row of an event; data that it does not use are 0.
@@ -46,8 +43,8 @@ pub fn time_of(row: &Row) -> u64 {
 
 /// Whether ten numbers are a good row.
 pub fn good(row: &Row) -> bool {
-    let times = if row[0] == 5 { 1 } else { TIMES };
-    (1..=6).contains(&row[0]) && time_of(row) < times && (0..7).all(|i| u64::from(row[3 + i]) < limits(row[0])[i])
+    let within = |limits: [u64; 7]| row[3..].iter().zip(limits).all(|(&number, limit)| u64::from(number) < limit);
+    time_of(row) < TIMES && limits(row[0]).is_some_and(within)
 }
 
 /// Why a list cannot be written, whatever the buffer, and the index of the first row at fault. `writable` says for which good rows

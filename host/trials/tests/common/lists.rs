@@ -23,10 +23,8 @@ fn a_row<R: Reached>(time: u64, numbers: &mut Numbers) -> Row {
 
 /// A row of a kind, with data that can be written if the kind can be.
 fn a_row_of<R: Reached>(kind: u32, time: u64, numbers: &mut Numbers) -> Row {
-    match kind {
-        1..=6 => row(kind, if kind == 5 { 0 } else { time }, R::limits(kind).map(|limit| (u64::from(numbers.any()) % limit) as u32)),
-        _ => row(kind, time, [0; 7]),
-    }
+    let limits = R::limits(kind).unwrap_or([1; 7]);
+    row(kind, time, limits.map(|limit| (u64::from(numbers.any()) % limit) as u32))
 }
 
 /// Lists that can be written.
@@ -103,8 +101,10 @@ fn numbers_near<R: Reached>(kind: u32, number: usize) -> Vec<u32> {
         0 => return (0..9).chain([255, 256, 65_537, u32::MAX]).collect(),
         1 => vec![1 << 32],
         2 => vec![1, 4],
-        _ if (1..=6).contains(&kind) => vec![limits(kind)[number - 3], R::limits(kind)[number - 3], 2_048],
-        _ => vec![1],
+        _ => match limits(kind).zip(R::limits(kind)) {
+            Some((limits, written)) => vec![limits[number - 3], written[number - 3], 2_048],
+            None => vec![1],
+        },
     };
     limits.into_iter().flat_map(|limit| [limit - 1, limit, u64::from(u32::MAX)]).map(|value| value as u32).collect()
 }

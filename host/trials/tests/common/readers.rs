@@ -132,15 +132,20 @@ fn damaged_recordings<R: Reached>(comparer: &mut Comparer<R>) {
     for _ in 0..100_000 {
         let picture = a_picture(&mut numbers);
         let mut bytes = R::a_recording(picture, 60, &mut numbers);
-        for _ in 0..=numbers.below(4) {
-            let at = numbers.below(bytes.len() as u32) as usize;
-            match numbers.below(3) {
-                0 => bytes[at] = numbers.any() as u8,
-                1 => drop(bytes.remove(at)),
-                _ => bytes.insert(at, bytes[at]),
-            }
-        }
+        damage(&mut bytes, &mut numbers);
         comparer.compare(&bytes, picture);
+    }
+}
+
+/// Replaces, drops and doubles some bytes.
+pub fn damage(bytes: &mut Vec<u8>, numbers: &mut Numbers) {
+    for _ in 0..=numbers.below(4) {
+        let at = numbers.below(bytes.len() as u32) as usize;
+        match numbers.below(3) {
+            0 => bytes[at] = numbers.any() as u8,
+            1 => drop(bytes.remove(at)),
+            _ => bytes.insert(at, bytes[at]),
+        }
     }
 }
 

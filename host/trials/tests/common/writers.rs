@@ -42,8 +42,8 @@ pub trait Reached: Default {
     /// The most words that the rows may take.
     fn most_words(rows: &[Row]) -> usize;
 
-    /// For a kind from 1 to 6 the number of values that each of its data numbers may take where the kind can be written.
-    fn limits(kind: u32) -> [u64; 7];
+    /// The number of values that each of a kind's data numbers may take where the kind can be written; nothing where there is no such kind.
+    fn limits(kind: u32) -> Option<[u64; 7]>;
 
     /// A list that can be written.
     fn a_list(most_events: u32, numbers: &mut Numbers) -> Vec<Row>;
@@ -174,7 +174,8 @@ fn first_broken<R: Reached>(row: &Row) -> usize {
     if !R::KINDS.contains(&row[0]) {
         return 0;
     }
-    let over = |i: usize| if i == 2 { row[2] >= 4 } else { u64::from(row[i]) >= R::limits(row[0])[i - 3] };
+    let limits = R::limits(row[0]).expect("the limits of a kind");
+    let over = |i: usize| if i == 2 { row[2] >= 4 } else { u64::from(row[i]) >= limits[i - 3] };
     (2..10).find(|&i| over(i)).expect("a rule that the row breaks")
 }
 

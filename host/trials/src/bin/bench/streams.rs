@@ -49,7 +49,7 @@ fn numbers() -> Numbers {
     Numbers::new(0x2545_f491_4f6c_dd1d)
 }
 
-/// Room for a recording's rows: it may give more than were asked for, what its last scene has and other kinds of rows.
+/// Room for a recording's rows: it may give more than were asked for, by what its last scene has.
 fn room(events: usize) -> usize {
     events + events / 8 + 1_000
 }

@@ -1,5 +1,5 @@
 -- The words after a header, whichever they are: what the code read of them, and what holds of them.
-use mathlib.Core.Path.{_≡_, subst}
+use mathlib.Core.Path.{_≡_, refl, subst}
 use Prim.Native.Nat.{ℕ, _+_, _-_, _≤_}
 use native.Mathlib.Omega.{arith}
 use mathlib.Core.List.{List}
@@ -8,7 +8,7 @@ use Rattle.rows.specs.declared.fault.Fault.{Fault}
 use Rattle.rows.specs.declared.fault.Reading.{Reading}
 use Rattle.rows.specs.declared.fault.Reading.the-variants.{Refused}
 use Rattle.rows.specs.Rules.{AllGood}
-use Rattle.rows.specs.Runs.{runFrom, EndsWithin, ReadAs}
+use Rattle.rows.specs.Runs.{runAs, runFrom, EndsWithin, ReadAs}
 use Rattle.rows.proofs.Lists.{part-rest}
 use Rattle.rows.proofs.Viewed.{reads-as, as-within, answerFrom, reads-from, reads-place, from-within}
 use Rattle.words.specs.Picture.{pictureOf}
@@ -19,6 +19,12 @@ use Rattle.evt3_laws.proofs.Kept as evt3
 use Rattle.raw.specs.declared.reader.Format.{Format}
 use Rattle.raw.specs.declared.reader.Format.the-variants.{Evt2, Evt3}
 use Rattle.raw.specs.Reader.{wordsAs}
+
+-- EVT2 words read as such
+pub evt2-words : (width height : ℕ) (bytes : List ℕ) (room : ℕ)
+    → wordsAs Evt2 width height bytes room ≡ runAs (λ _. tt) (evt2Reader.readingOf (pictureOf width height) bytes room)
+unfolding wordsAs
+evt2-words width height bytes room = refl
 
 -- the words of the format that the code matched on
 module _ {format : Format} (width height : ℕ) (bytes : List ℕ) (room : ℕ) {old new : List ℕ} {r : Reading} where

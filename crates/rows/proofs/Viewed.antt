@@ -4,10 +4,11 @@ use Prim.Native.Nat.{ℕ, _+_, _≤_}
 use native.Mathlib.Omega.{arith}
 use mathlib.Core.List.{List}
 use lib.ListN.{length}
+use Rattle.rows.specs.declared.row.Row.{Row}
 use Rattle.rows.specs.declared.fault.Fault.{Fault}
 use Rattle.rows.specs.declared.fault.Reading.{Reading}
 use Rattle.rows.specs.declared.fault.Reading.the-variants.{Finished, Refused}
-use Rattle.rows.specs.Runs.{Ending, finished, refused, Run, endingAs, runAs, endingFrom, runFrom, EndsWithin, answerOf, ReadAs}
+use Rattle.rows.specs.Runs.{Ending, finished, refused, Run, endingAs, runAs, endingFrom, runFrom, EndsWithin, answerOf, ReadAs, Finishes}
 
 -- the answer does not tell the state
 answer-as : {S T : Type 0} (f : S → T) (e : Ending S) (n : ℕ) → answerOf e n ≡ answerOf (endingAs f e) n
@@ -45,3 +46,11 @@ module _ {S : Type 0} {run : Run S} {old new : List ℕ} {r : Reading} (h : Read
 pub from-within : {S : Type 0} (at : ℕ) (e : Ending S) (bytes all : ℕ) → EndsWithin e bytes → at + bytes ≤ all → EndsWithin (endingFrom at e) all
 from-within at (finished s) bytes all h g = tt
 from-within at (refused f place) bytes all h g = omega (arith, h)
+
+-- a run that finishes with some rows does so in every view
+module _ {S : Type 0} {run : Run S} {rs : List Row} (h : Finishes run rs) where
+  pub finishes-as : {T : Type 0} (f : S → T) → Finishes (runAs f run) rs
+  finishes-as f = record { state = f (h .state); rows = h .rows; ending = ap (endingAs f) (h .ending) }
+
+  pub finishes-from : (at : ℕ) → Finishes (runFrom at run) rs
+  finishes-from at = record { state = h .state; rows = h .rows; ending = ap (endingFrom at) (h .ending) }

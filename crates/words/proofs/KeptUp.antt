@@ -1,4 +1,4 @@
--- A machine that keeps up with another finishes what the other finishes.
+-- A machine that keeps up with another finishes what the other finishes; how that is shown of a machine.
 use mathlib.Core.Path.{_≡_, refl, sym, _∙_, ap, subst}
 use Prim.Native.Nat.{ℕ, _+_, _-_, _≤_}
 use native.Mathlib.Omega.{arith}
@@ -14,7 +14,7 @@ use Rattle.rows.specs.Row.{only}
 use Rattle.rows.specs.Runs.{Ending, finished, refused, Run, prepend, stopped, resume, Finishes}
 use Rattle.rows.proofs.Only.{only-append, only-short}
 use Rattle.words.specs.Words.{Words, word, whole, part, wordsOf}
-use Rattle.words.specs.Machine.{Outcome, next, fault, Machine, Reached, after, run, closed, reading, readFrom, KeepsUp}
+use Rattle.words.specs.Machine.{Outcome, next, fault, Machine, Reached, after, run, closed, reading, readFrom, Takes, KeepsUp}
 
 -- a run that was refused did not finish
 not-finished : {S A : Type 0} {f : Fault} {place : ℕ} {r : Reached S} → _≡_ {A = Ending (Reached S)} (refused f place) (finished r) → A
@@ -105,3 +105,14 @@ module _ {S T : Type 0} {m : Machine S} {n : Machine T} {test : Row → Bool} {A
   read-beside bytes s t at room a e =
       subst (λ (size : ℕ). Finishes (reading n (wordsOf size (drop at bytes)) t at room) (only test (readFrom m bytes s at room .rows))) (sym (k .size))
       (reading-beside (wordsOf (m .size) (drop at bytes)) s t at room a e)
+
+-- how a machine is shown to keep up: of what the other does with a word
+module _ {S T : Type 0} (n : Machine T) (test : Row → Bool) (Alike : S → T → Type 0) where
+  abbrev pub Along : Outcome S → T → ℕ → ℕ → Type 0
+  Along (next s new) t place w = Takes n t place w (only test new) (Alike s)
+  Along (fault f) t place w = Unit {0}
+
+  pub along-keeps : (m : Machine S) → n .size ≡ m .size → ((s : S) (t : T) (place w : ℕ) → Alike s t → Along (m .step s place w) t place w)
+      → ((s : S) (t : T) → Alike s t → m .pending s ≡ false → n .pending t ≡ false) → KeepsUp m n test Alike
+  along-keeps m same h p =
+      record { size = same; step = λ s t place w s′ new a e. subst (λ (o : Outcome S). Along o t place w) e (h s t place w a); pending = p }

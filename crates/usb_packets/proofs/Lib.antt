@@ -1,0 +1,3 @@
+-- Lemmas, and the laws proved (Kept).
+pub mod Kept
+pub mod PassedBy

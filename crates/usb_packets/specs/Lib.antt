@@ -1,0 +1,3 @@
+-- What was done with USB packets before, and what holds of it.
+pub mod Before
+pub mod Promises

@@ -3,7 +3,7 @@ use trials::samples::aedat::{imu6, packet, polarity, special, END, IMU6, POLARIT
 use trials::samples::dat::{event, TYPE_AND_SIZE};
 use trials::samples::{evt2, evt3};
 
-/// EVT2 words: a USB packet, which gives no row, before the clock, a pixel, a trigger and an IMU reading.
+/// EVT2 words: a USB packet before the clock, which gives no row, a pixel, a trigger and an IMU reading.
 pub fn evt2_words() -> Vec<u8> {
     let packet = [0xe000_00fe, 0xf000_8000, 0xf000_0003, 0xf000_0010, 0xf000_0004];
     let reading = [0xd040_8000, 0xf041_0000, 0xf040_0000, 0xf040_0106, 0xf040_0000, 0xf041_fffe];

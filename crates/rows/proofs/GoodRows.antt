@@ -5,7 +5,7 @@ use Prim.Native.Nat.{ℕ, zero, suc, _<_}
 use native.Mathlib.Omega.{arith}
 use mathlib.Core.Bool.{Bool, true, false, _&&_}
 use mathlib.Core.List.{List, [], _∷_, _++_}
-use lib.Dec.{ltb}
+use lib.Dec.{ltb, eqb}
 use borrow.Author.Tests.{lt-ltb, ltb-true, ne-eqb}
 use Rattle.rows.specs.declared.row.Row.{Row}
 use Rattle.rows.specs.declared.rules.Kind.{Kind}
@@ -23,6 +23,10 @@ pub and-second : (x y : Bool) → x && y ≡ true → y ≡ true
 and-second true y e = e
 and-second false true e = refl
 and-second false false e = e
+
+and-none : (x : Bool) → x && false ≡ false
+and-none true = refl
+and-none false = refl
 
 -- a row is good by the rules of its kind, and no row of another kind is
 pub good-by-kind : (r : Row) → goodRow r ≡ goodAs (kindOf (r .kind)) r
@@ -65,6 +69,15 @@ named-kind n Other e = ⊎-elim (λ z. rw z) (⊎-elim (λ f. rw f) (other-past 
 pub five-bad : (r : Row) → r .kind ≡ 5 → goodRow r ≡ false
 unfolding goodRow
 five-bad r e = rw (named-kind (r .kind) Other (inr (inl e))) (other-bad r)
+
+-- of pixels and triggers the last four numbers are unused
+pub pixel-few : (r : Row) → unused (r .d ∷ r .e ∷ r .f ∷ r .g ∷ []) ≡ false → goodAs Pixel r ≡ false
+unfolding goodAs
+pixel-few r h = rw h (and-none (timely r && below 32768 (r .a ∷ r .b ∷ []) && ltb (r .c) 2))
+
+pub trigger-few : (r : Row) → unused (r .d ∷ r .e ∷ r .f ∷ r .g ∷ []) ≡ false → goodAs Trigger r ≡ false
+unfolding goodAs
+trigger-few r h = rw (h, and-none (eqb (r .c) 0)) (and-none (timely r && ltb (r .a) 32 && ltb (r .b) 2))
 
 -- each of some numbers below a limit
 abbrev pub Below : ℕ → List ℕ → Type 0

@@ -67,6 +67,11 @@ module _ (can : Kind → Row → Bool) (r : Row) (last : ℕ) {k : Kind} (is : k
   pub judged-wordless : can k r ≡ false → Refused BadRow ≡ judgedOf (can (kindOf (r .kind)) r) r last
   judged-wordless e = judged-unwritable r last ∙ ap (λ (t : Bool). judgedOf t r last) (same-can e)
 
+  -- and one that breaks the rules of its kind
+  pub judged-broken : goodAs k r ≡ false → Refused BadRow ≡ judgedOf (can (kindOf (r .kind)) r) r last
+  unfolding judgedAs
+  judged-broken e = ap (λ (g : Bool). judgedBy g (can k r) r last) (sym e) ∙ judged-kind refl
+
 -- and a row that is not refused has that time
 pub judged-is-time : (writable : Bool) (r : Row) (last : ℕ) {t : ℕ} → Time t ≡ judgedOf writable r last → t ≡ timeOf r
 unfolding judgedOf
@@ -120,7 +125,15 @@ module _ (writable : Row → Bool) where
   writable-accepted (r ∷ rs) i last h =
       simp (h .0, h .1, le-ltb (timeOf r) last (h .2)) (writable-accepted rs (suc i) (timeOf r) (h .3))
 
-  -- a whole list: 13 passed, and then every row
+  -- a whole list: 13, and then row by row
+  pub bad-list : (l : List ℕ) → goodLength (length l) ≡ false → verdictOf writable l ≡ refused BadList 0
+  unfolding verdictOf
+  bad-list l e = rw e
+
+  pub good-list : (l : List ℕ) → goodLength (length l) ≡ true → verdictOf writable l ≡ verdictFrom writable (rowsOf l) 0 0
+  unfolding verdictOf
+  good-list l e = rw e
+
   pub accepted-list : (l : List ℕ) → verdictOf writable l ≡ accepted → (goodLength (length l) ≡ true) × Writable writable 0 (rowsOf l)
   unfolding verdictOf
   accepted-list l h = go (goodLength (length l)) refl h

@@ -2,7 +2,7 @@
 use mathlib.Core.Path.{_≡_, refl, sym, _∙_, ap, subst}
 use mathlib.Core.Logic.{_⊎_, inl, inr}
 use Prim.Native.Nat.{ℕ}
-use mathlib.Core.Bool.{Bool, true, false, cond, _&&_}
+use mathlib.Core.Bool.{Bool, true, false, not, cond, _&&_, _||_}
 use mathlib.Core.List.{List, [], _∷_}
 use lib.Dec.{eqb}
 use borrow.Author.Tests.{eqb-true}
@@ -24,7 +24,7 @@ use Rattle.evt2.specs.Words.{step}
 use Rattle.evt2.specs.Reader.{machine}
 use Rattle.evt2_laws.proofs.GoodRead.{Limits, fresh-limits, machine-keeps}
 use Rattle.evt2_laws.proofs.Kept.{passed-over}
-use Rattle.usb_packets.specs.Before.{Before, freshBefore, inPacket, packetOf, begins, begun, further, packetStep, withToday, stepBefore, machineBefore}
+use Rattle.usb_packets.specs.Before.{Before, freshBefore, inPacket, packetOf, begins, packetBegun, packetFurther, packetStep, withToday, stepBefore, machineBefore}
 use Rattle.usb_packets.specs.Promises.{notFive}
 
 -- what holds of a state before: no packet was in hand inside a group
@@ -44,7 +44,7 @@ fresh-alike = record { today = refl; fine = record { outside = λ e. refl; limit
 good-kept : (r : Row) → goodRow r ≡ true → notFive r ≡ true
 good-kept r g = go (eqb (r .kind) 5) refl
   where
-    go : (t : Bool) → eqb (r .kind) 5 ≡ t → cond t false true ≡ true
+    go : (t : Bool) → eqb (r .kind) 5 ≡ t → not t ≡ true
     go true e = sym (five-refused r (eqb-true _ _ e)) ∙ g
     go false e = refl
 
@@ -73,17 +73,17 @@ module _ (p : Picture) (s : Before) (place w : ℕ) (h : Fine s) where
       none true = refl
       none false = refl
 
-      go : (t : Bool) → eqb (field 28 4 w) 15 ≡ t → Taken (cond t (next (further s w) (given (eqb (s .left) 1))) (fault Stray))
-      go true e = passed (further s w) (given (eqb (s .left) 1)) (h .outside is) (inr (eqb-true _ _ e)) refl (none (eqb (s .left) 1))
+      go : (t : Bool) → eqb (field 28 4 w) 15 ≡ t → Taken (cond t (next (packetFurther s w) (given (eqb (s .left) 1))) (fault Stray))
+      go true e = passed (packetFurther s w) (given (eqb (s .left) 1)) (h .outside is) (inr (eqb-true _ _ e)) refl (none (eqb (s .left) 1))
       go false e = tt
 
-  first : begins s w ≡ true → Taken (next (begun s place) [])
+  first : begins s w ≡ true → Taken (next (packetBegun s place) [])
   first is =
-      let others = and-first (eqb (field 28 4 w) 14) _ (and-first _ (cond (pending (s .today)) false true) is) in
+      let others = and-first (eqb (field 28 4 w) 14) _ (and-first _ (not (pending (s .today))) is) in
       let out = outside (pending (s .today)) (and-second (eqb (field 28 4 w) 14 && eqb (field 0 16 w) 0xFE) _ is) in
-      passed (begun s place) [] out (inl (eqb-true _ _ others)) refl refl
+      passed (packetBegun s place) [] out (inl (eqb-true _ _ others)) refl refl
     where
-      outside : (t : Bool) → cond t false true ≡ true → t ≡ false
+      outside : (t : Bool) → not t ≡ true → t ≡ false
       outside true e = sym e
       outside false e = refl
 
@@ -105,7 +105,7 @@ module _ (p : Picture) (s : Before) (place w : ℕ) (h : Fine s) where
   taken = go (inPacket s) refl (begins s w) refl
     where
       go : (t : Bool) → inPacket s ≡ t → (u : Bool) → begins s w ≡ u
-          → Taken (cond t (packetStep s w) (cond u (next (begun s place) []) (withToday s (step p (s .today) place w))))
+          → Taken (cond t (packetStep s w) (cond u (next (packetBegun s place) []) (withToday s (step p (s .today) place w))))
       go true e u f = inside e
       go false e true f = first f
       go false e false f = other e
@@ -116,6 +116,6 @@ keeps-up p =
     (λ s t place w a. subst (λ (q : State). Along (machine p) notFive Alike (stepBefore p s place w) q place w) (a .today) (taken p s place w (a .fine)))
     (λ s t a e. subst (λ (q : State). pending q ≡ false) (a .today) (none s (inPacket s) e))
   where
-    none : (s : Before) (t : Bool) → cond t true (pending (s .today)) ≡ false → pending (s .today) ≡ false
+    none : (s : Before) (t : Bool) → t || pending (s .today) ≡ false → pending (s .today) ≡ false
     none s true e = never (sym e)
     none s false e = e

@@ -1,7 +1,7 @@
 -- What the EVT2 reader did with USB packets before 02, R-11: 01, "Rows" and "EVT2 words", with the sentences that R-11 takes back. This is kept
 -- for the law PacketsGone alone: no reader does it any more.
 use Prim.Native.Nat.{ℕ, _+_, _-_, _*_, _/_, _%_}
-use mathlib.Core.Bool.{Bool, true, false, cond, _&&_}
+use mathlib.Core.Bool.{Bool, not, cond, _&&_, _||_}
 use mathlib.Core.List.{List, [], _∷_}
 use lib.ListN.{length, drop}
 use lib.Dec.{ltb, eqb}
@@ -34,7 +34,7 @@ abbrev pub inPacket : Before → Bool
 inPacket s = ltb 0 (s .left)
 
 abbrev pub pendingBefore : Before → Bool
-pendingBefore s = cond (inPacket s) true (pending (s .today))
+pendingBefore s = inPacket s || pending (s .today)
 
 abbrev pub originBefore : Before → ℕ → ℕ
 originBefore s place = cond (inPacket s) (s .place) (origin (s .today) place)
@@ -54,19 +54,19 @@ packetOf a b c d =
 
 -- outside a group, OTHERS whose bits 15..0 are 0xFE began a packet, also before the clock
 abbrev pub begins : Before → ℕ → Bool
-begins s w = eqb (field 28 4 w) 14 && eqb (field 0 16 w) 0xFE && cond (pending (s .today)) false true
+begins s w = eqb (field 28 4 w) 14 && eqb (field 0 16 w) 0xFE && not (pending (s .today))
 
-abbrev pub begun : Before → ℕ → Before
-begun s place = record { today = s .today; place = place; a = 0; b = 0; c = 0; left = 4 }
+abbrev pub packetBegun : Before → ℕ → Before
+packetBegun s place = record { today = s .today; place = place; a = 0; b = 0; c = 0; left = 4 }
 
-abbrev pub further : Before → ℕ → Before
-further s w = record { today = s .today; place = s .place; a = s .b; b = s .c; c = w; left = s .left - 1 }
+abbrev pub packetFurther : Before → ℕ → Before
+packetFurther s w = record { today = s .today; place = s .place; a = s .b; b = s .c; c = w; left = s .left - 1 }
 
 -- a word inside a packet: one that was not CONTINUED was refused 8; the fourth gave the row
 abbrev pub packetStep : Before → ℕ → Outcome Before
 packetStep s w =
     cond (eqb (field 28 4 w) 15)
-    (next (further s w) (cond (eqb (s .left) 1) (packetOf (s .a) (s .b) (s .c) w ∷ []) []))
+    (next (packetFurther s w) (cond (eqb (s .left) 1) (packetOf (s .a) (s .b) (s .c) w ∷ []) []))
     (fault Stray)
 
 -- every other word did what it does today
@@ -76,7 +76,7 @@ withToday s (fault f) = fault f
 
 abbrev pub stepBefore : Picture → Before → ℕ → ℕ → Outcome Before
 stepBefore p s place w =
-    cond (inPacket s) (packetStep s w) (cond (begins s w) (next (begun s place) []) (withToday s (step p (s .today) place w)))
+    cond (inPacket s) (packetStep s w) (cond (begins s w) (next (packetBegun s place) []) (withToday s (step p (s .today) place w)))
 
 abbrev pub machineBefore : Picture → Machine Before
 machineBefore p = record { size = 4; step = λ s place w. stepBefore p s place w; origin = originBefore; pending = pendingBefore }

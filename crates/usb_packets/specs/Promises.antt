@@ -1,7 +1,7 @@
 -- The laws of this crate, each proved in proofs/Kept.antt under the name in lower case.
 use mathlib.Core.Path.{_≡_}
 use Prim.Native.Nat.{ℕ}
-use mathlib.Core.Bool.{Bool, true, false, cond}
+use mathlib.Core.Bool.{Bool, not}
 use mathlib.Core.List.{List, [], _∷_}
 use lib.Dec.{eqb}
 use Rattle.rows.specs.declared.fault.Fault.the-variants.{NoRoom, Cut, Stray}
@@ -18,7 +18,7 @@ use Rattle.usb_packets.specs.Before.{Before, packetRow, readBefore, word
 
 -- rows but those of kind 5
 abbrev pub notFive : Row → Bool
-notFive r = cond (eqb (r .kind) 5) false true
+notFive r = not (eqb (r .kind) 5)
 
 abbrev pub withoutPackets : List Row → List Row
 withoutPackets = only notFive
@@ -33,21 +33,18 @@ abbrev pub RawPacketsGone : Type 0
 RawPacketsGone = (bytes : List ℕ) (room : ℕ) → readRawBefore bytes room .ending ≡ finished tt
     → Finishes (raw.readingOf Evt2 bytes room) (withoutPackets (readRawBefore bytes room .rows))
 
--- that it was so: words, room, and what was read of them in a picture of 2,048 by 2,048
+-- cases of what was done before: words, the room for rows, and what they gave in a picture of 2,048 by 2,048
 pub record Case : Type 0 where
   pub words : List ℕ
   pub room : ℕ
   pub run : Run (Unit {0})
 
-abbrev pub Holds : Case → Type 0
-Holds c = wordsBefore 2048 2048 (bytesOfAll 4 (c .words)) (c .room) ≡ c .run
+abbrev pub EachHolds : List Case → Type 0
+EachHolds [] = Unit {0}
+EachHolds (c ∷ cs) = (wordsBefore 2048 2048 (bytesOfAll 4 (c .words)) (c .room) ≡ c .run) × EachHolds cs
 
-abbrev pub AllHold : List Case → Type 0
-AllHold [] = Unit {0}
-AllHold (c ∷ cs) = Holds c × AllHold cs
-
-abbrev pub cases : List Case
-cases =
+abbrev pub packetCases : List Case
+packetCases =
     -- before the clock, the parts of the count and of the system time
     record {
       words = 0xE00000FE ∷ 0xF1230000 ∷ 0xFAB45678 ∷ 0xF1234567 ∷ 0xF89ABCDE ∷ [];
@@ -79,4 +76,4 @@ cases =
     []
 
 abbrev pub PacketCases : Type 0
-PacketCases = AllHold cases
+PacketCases = EachHolds packetCases

@@ -16,6 +16,7 @@ use Rattle.rows.specs.declared.fault.WritingNumbers.{WritingNumbers}
 use Rattle.rows.specs.Fault.{writingNumbers}
 use Rattle.rows.specs.Row.{rowsOf}
 use Rattle.rows.specs.Rules.{Verdict, accepted, refused, verdictFrom, goodLength, verdictOf}
+use Rattle.rows.proofs.Judged.{bad-list, good-list}
 use Rattle.rows.proofs.Stored.{sets-over}
 use Rattle.words.specs.Words.{bytesOfAll}
 use Rattle.words.specs.Writer.{Spelling, spelled, writingVerdict, writingOf, WroteAs, WroteNumbers}
@@ -46,14 +47,17 @@ module _ (s : Spelling) (l old : List ℕ) where
 
   -- the list's length is refused
   pub wrote-bad-list : goodLength (length l) ≡ false → WroteAs s l old old (Refused BadList 0)
-  unfolding writingVerdict verdictOf
-  wrote-bad-list e = as-refused (rw e)
+  unfolding writingVerdict
+  wrote-bad-list e = as-refused (rw (bad-list (s .writable) l e))
 
   -- the rows were judged and their words counted
   module _ (good : goodLength (length l) ≡ true) {counted : Writing} (is : counted ≡ writingOf (verdictFrom (s .writable) (rowsOf l) 0 0) (length (spelled s l))) where
+    judged : verdictOf (s .writable) l ≡ verdictFrom (s .writable) (rowsOf l) 0 0
+    judged = good-list (s .writable) l good
+
     pub wrote-refused : {f : Fault} {i : ℕ} → counted ≡ Refused f i → WroteAs s l old old (Refused f i)
-    unfolding writingVerdict verdictOf
-    wrote-refused e = as-refused (rw (good, same-refused (verdictFrom (s .writable) (rowsOf l) 0 0) (length (spelled s l)) (sym e ∙ is)))
+    unfolding writingVerdict
+    wrote-refused e = as-refused (rw (judged, same-refused (verdictFrom (s .writable) (rowsOf l) 0 0) (length (spelled s l)) (sym e ∙ is)))
 
     pub passed : {n : ℕ} → counted ≡ Written n → verdictFrom (s .writable) (rowsOf l) 0 0 ≡ accepted
     passed e = same-written (verdictFrom (s .writable) (rowsOf l) 0 0) (sym e ∙ is) .0
@@ -62,13 +66,13 @@ module _ (s : Spelling) (l old : List ℕ) where
     word-count e = same-written (verdictFrom (s .writable) (rowsOf l) 0 0) (sym e ∙ is) .1
 
     pub wrote-full : {n : ℕ} → counted ≡ Written n → length old < n * s .size → WroteAs s l old old (Refused NoRoom 0)
-    unfolding writingVerdict verdictOf
-    wrote-full e f = as-refused (rw (good, passed e, sym (word-count e), lt-leb _ _ f))
+    unfolding writingVerdict
+    wrote-full e f = as-refused (rw (judged, passed e, sym (word-count e), lt-leb _ _ f))
 
     pub wrote-all : {n : ℕ} {new : List ℕ} → counted ≡ Written n → n * s .size ≤ length old → new ≡ sets old 0 (bytesOfAll (s .size) (spelled s l)) → WroteAs s l old new (Written n)
-    unfolding writingVerdict verdictOf
+    unfolding writingVerdict
     wrote-all {n} e f g =
-        rw (word-count e) (as-accepted (rw (good, passed e, sym (word-count e), le-leb _ _ f)) (rw (sym (word-count e)) f) g)
+        rw (word-count e) (as-accepted (rw (judged, passed e, sym (word-count e), le-leb _ _ f)) (rw (sym (word-count e)) f) g)
 
 -- a list that passes 13, 12 and 5 is refused where the buffer is shorter than its words, and there alone
 pub room-exact : (s : Spelling) (l : List ℕ) (bytes : ℕ) → verdictOf (s .writable) l ≡ accepted → RoomExact s l bytes

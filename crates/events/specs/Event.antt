@@ -33,7 +33,7 @@ singlesEvent r =
 
 -- a good row's event is one of its own kind
 unfoldable pub eventAs : Kind → Row → Conversion
-eventAs kind.Pixel r = Turned (Pixel (timeOf r) (r .a) (r .b) (r .c))
+eventAs kind.Pixel r = Turned (Pixel (timeOf r) (r .a) (r .b) (r .c) (r .d))
 eventAs kind.Trigger r = Turned (Trigger (timeOf r) (r .a) (r .b))
 eventAs kind.ImuCounts r = Turned (countsEvent r)
 eventAs kind.ImuSingles r = Turned (singlesEvent r)
@@ -46,7 +46,7 @@ eventOf r = cond (goodRow r) (eventAs (kindOf (r .kind)) r) (Refused BadRow)
 
 -- every event carries its row's time
 abbrev pub eventTime : Event → ℕ
-eventTime (Pixel t x y p) = t
+eventTime (Pixel t x y p camera) = t
 eventTime (Trigger t c e) = t
 eventTime (ImuCounts t ax ay az rx ry rz) = t
 eventTime (ImuSingles t ax ay az rx ry rz k p) = t
@@ -58,7 +58,7 @@ plusZero = ofBits binary32 0
 
 -- seven readings, +0 where the kind has none
 abbrev pub readingsOf : Event → List Float
-readingsOf (Pixel t x y p) = replicate 7 plusZero
+readingsOf (Pixel t x y p camera) = replicate 7 plusZero
 readingsOf (Trigger t c e) = replicate 7 plusZero
 readingsOf (ImuCounts t ax ay az rx ry rz) = ax ∷ ay ∷ az ∷ rx ∷ ry ∷ rz ∷ plusZero ∷ []
 readingsOf (ImuSingles t ax ay az rx ry rz k p) = ax ∷ ay ∷ az ∷ rx ∷ ry ∷ rz ∷ k ∷ []

@@ -31,6 +31,7 @@ pub enum Event {
         x: u32,
         y: u32,
         polarity: u32,
+        camera: u32,
     },
     Trigger {
         time: u64,
@@ -131,6 +132,7 @@ fn event_as(kind: Kind, row: Row) -> Conversion
             x: row.a,
             y: row.b,
             polarity: row.c,
+            camera: row.d,
         }),
         Kind::Trigger => Conversion::Turned(Event::Trigger {
             time: row.time(),
@@ -169,6 +171,7 @@ impl Event {
                 x: _,
                 y: _,
                 polarity: _,
+                camera: _,
             } => [0.0; 7],
             Event::Trigger {
                 time: _,

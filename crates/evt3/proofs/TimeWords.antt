@@ -5,14 +5,15 @@ use mathlib.Core.Bool.{Bool, true, false, cond, _&&_}
 use mathlib.Core.List.{List, [], _∷_, _++_}
 use lib.ListN.{length, length-append}
 use lib.Dec.{eqb}
+use Rattle.evt3.specs.declared.told.Told.{Told}
 use Rattle.evt3.specs.Spelling.{lowWord, highWord, unless, highWords, wrapsOf, highOf, timeWords, yWords}
 
 unless-short : (known : Bool) (w : ℕ) → length (unless known w) ≤ 1
 unless-short true w = omega arith
 unless-short false w = omega arith
 
-pub y-short : (lined : Bool) (old y : ℕ) → length (yWords lined old y) ≤ 1
-y-short lined old y = unless-short (lined && eqb old y) _
+pub y-short : (told : Told) (y camera : ℕ) → length (yWords told y camera) ≤ 1
+y-short told y camera = unless-short (told .lined && eqb (told .y) y && eqb (told .camera) camera) _
 
 pub high-short : (n : ℕ) (known : Bool) (old high : ℕ) → length (highWords n known old high) ≤ 1 + 2 * n
 unfolding highWords

@@ -1,6 +1,6 @@
 // What a reader knows between words, and what each kind of word does with it.
 ghost use mathlib.Core.Path.{_≡_};
-ghost use Prim.Native.Nat.{_≤_, _%_, _/_};
+ghost use Prim.Native.Nat.{_<_, _%_, _/_};
 ghost use Rattle.evt3.specs.State.{fresh, withHigh, withY, withBase, moved};
 ghost use Rattle.evt3.specs.Words.{dropTo, isWrap, wrapsAt, goesBack, badHigh, withLow};
 
@@ -16,14 +16,17 @@ pub struct Known {
 pub struct State {
     // Microseconds.
     pub time: u64,
-    // The high part of the time, and how often it wrapped.
-    pub high: u16,
-    pub wraps: u16,
-    pub y: u16,
-    // The column that the next vector begins at, and its polarity.
-    pub base: u16,
-    pub polarity: u32,
     pub known: Known,
+    // How often the clock wrapped, and the high part of the time.
+    pub wraps: u32,
+    pub high: u16,
+    // The line, and which of two cameras sees it: known together.
+    pub y: u16,
+    // The column that the next vector begins at.
+    pub base: u16,
+    pub camera: u8,
+    // The polarity of the next vector.
+    pub polarity: u8,
 }
 
 impl State {
@@ -33,17 +36,18 @@ impl State {
     {
         State {
             time: 0,
-            high: 0,
-            wraps: 0,
-            y: 0,
-            base: 0,
-            polarity: 0,
             known: Known {
                 high: false,
                 time: false,
                 y: false,
                 base: false,
             },
+            wraps: 0,
+            high: 0,
+            y: 0,
+            base: 0,
+            camera: 0,
+            polarity: 0,
         }
     }
 
@@ -67,10 +71,10 @@ impl State {
     }
 
     // The wrap count that a high part leads to.
-    fn wraps_at(self, high: u16) -> u32
+    fn wraps_at(self, high: u16) -> u64
         ensures { λ r. ⌜ r ≡ wrapsAt self high ⌝ }
     {
-        let wraps = self.wraps as u32;
+        let wraps = self.wraps as u64;
         if self.is_wrap(high) {
             return wraps + 1;
         }
@@ -94,11 +98,11 @@ impl State {
 
     // EVT_TIME_HIGH: the high part, and not the time.
     pub(crate) fn time_high(mut self, w: u64) -> State
-        requires { ⌜ wrapsAt self (w % 4096) ≤ 65535 ⌝ }
+        requires { ⌜ wrapsAt self (w % 4096) < 1024 ⌝ }
         ensures { λ r. ⌜ r ≡ withHigh self (w % 4096) (wrapsAt self (w % 4096)) ⌝ }
     {
         let high = (w % 4096) as u16;
-        self.wraps = self.wraps_at(high) as u16;
+        self.wraps = self.wraps_at(high) as u32;
         self.high = high;
         self.known.high = true;
         self
@@ -115,17 +119,18 @@ impl State {
         self
     }
 
-    // EVT_ADDR_Y of a camera that is no slave.
+    // EVT_ADDR_Y: the line and its camera.
     pub(crate) fn addr_y(mut self, w: u64) -> State
-        ensures { λ r. ⌜ r ≡ withY self (w % 2048) ⌝ }
+        ensures { λ r. ⌜ r ≡ withY self (w % 2048) (w / 2048 % 2) ⌝ }
     {
         self.y = (w % 2048) as u16;
+        self.camera = (w / 2048 % 2) as u8;
         self.known.y = true;
         self
     }
 
     // With another base.
-    fn with_base(mut self, base: u16, polarity: u32) -> State
+    fn with_base(mut self, base: u16, polarity: u8) -> State
         ensures { λ r. ⌜ r ≡ withBase self base polarity ⌝ }
     {
         self.base = base;
@@ -138,7 +143,7 @@ impl State {
     pub(crate) fn vect_base_x(self, w: u64) -> State
         ensures { λ r. ⌜ r ≡ withBase self (w % 2048) (w / 2048 % 2) ⌝ }
     {
-        self.with_base((w % 2048) as u16, (w / 2048 % 2) as u32)
+        self.with_base((w % 2048) as u16, (w / 2048 % 2) as u8)
     }
 
     // After a vector of n columns: a known base moves on, and stops at 2,048.

@@ -24,8 +24,9 @@ pub record Pixels (since : ℕ) (g : Group) : Type 0 where
   pub time : timeOf (g .first) < 17179869184
   pub line : g .first .b < 2048
   pub polarity : g .first .c < 2
+  pub camera : g .first .d < 2
   pub rising : Rising 0 2048 (columnsOf (g .first ∷ g .more))
-  pub rows : g .first ∷ g .more ≡ rowsAt (timeOf (g .first)) (g .first .b) (g .first .c) (columnsOf (g .first ∷ g .more))
+  pub rows : g .first ∷ g .more ≡ rowsAt (timeOf (g .first)) (g .first .b) (g .first .c) (g .first .d) (columnsOf (g .first ∷ g .more))
 
 -- a trigger of such a list
 pub record TriggerGroup (since : ℕ) (g : Group) : Type 0 where
@@ -55,6 +56,7 @@ module _ (since : ℕ) (r : Row) (good : goodRow r ≡ true) (can : writable r �
         time = good-timely r good;
         line = pixel-within r can k .1;
         polarity = made .pixel k .4;
+        camera = made .pixel k .5;
         rising = (omega arith, pixel-within r can k .0, tt);
         rows = ap₂ _∷_ (made .pixel k .0) refl;
       }))
@@ -73,8 +75,8 @@ module _ (since : ℕ) (r : Row) (good : goodRow r ≡ true) (can : writable r �
   joined-good [] h = (alone-good, tt)
   joined-good (g ∷ gs) h = go (goesOn r (g .first)) refl
     where
-      same-rows : {t u y z p q : ℕ} (xs : List ℕ) → t ≡ u → y ≡ z → p ≡ q → rowsAt u z q xs ≡ rowsAt t y p xs
-      same-rows xs a b c = cc
+      same-rows : {t u y z p q c d : ℕ} (xs : List ℕ) → t ≡ u → y ≡ z → p ≡ q → c ≡ d → rowsAt u z q d xs ≡ rowsAt t y p c xs
+      same-rows xs e f g h = cc
 
       both : goesOn r (g .first) ≡ true → Pixels (timeOf r) g → Pixels since (record { first = r; more = g .first ∷ g .more })
       both e s =
@@ -85,8 +87,9 @@ module _ (since : ℕ) (r : Row) (good : goodRow r ≡ true) (can : writable r �
             time = good-timely r good;
             line = pixel-within r can (p .0) .1;
             polarity = made .pixel (p .0) .4;
-            rising = (omega arith, pixel-within r can (p .0) .0, (omega (arith, p .5), s .rising .1, s .rising .2));
-            rows = ap₂ _∷_ (made .pixel (p .0) .0) (s .rows ∙ same-rows (columnsOf (g .first ∷ g .more)) (p .2) (p .3) (p .4));
+            camera = made .pixel (p .0) .5;
+            rising = (omega arith, pixel-within r can (p .0) .0, (omega (arith, p .6), s .rising .1, s .rising .2));
+            rows = ap₂ _∷_ (made .pixel (p .0) .0) (s .rows ∙ same-rows (columnsOf (g .first ∷ g .more)) (p .2) (p .3) (p .4) (p .5));
           }
 
       go : (k : Bool) → goesOn r (g .first) ≡ k

@@ -5,12 +5,12 @@ use Prim.Native.Nat.{ℕ, zero, suc, _<_}
 use native.Mathlib.Omega.{arith}
 use mathlib.Core.Bool.{Bool, true, false, _&&_}
 use mathlib.Core.List.{List, [], _∷_, _++_}
-use lib.Dec.{ltb, eqb}
-use borrow.Author.Tests.{lt-ltb, ltb-true, ne-eqb}
+use lib.Dec.{ltb, eqb, lit<}
+use borrow.Author.Tests.{lt-ltb, le-ltb, ltb-true, ne-eqb}
 use Rattle.rows.specs.declared.row.Row.{Row}
 use Rattle.rows.specs.declared.rules.Kind.{Kind}
 use Rattle.rows.specs.declared.rules.Kind.the-variants.{Pixel, Trigger, ImuCounts, ImuSingles, Special, Other}
-use Rattle.rows.specs.Row.{timeOf, timed, pixelRow, triggerRow, countsRow, singlesRow, specialRow}
+use Rattle.rows.specs.Row.{timeOf, timed, cameraRow, pixelRow, triggerRow, countsRow, singlesRow, specialRow}
 use Rattle.rows.specs.Rules.{below, unused, timely, goodPair, kindOf, goodAs, goodRow, AllGood}
 use Rattle.rows.specs.Promises.{Names}
 use Rattle.rows.proofs.Chosen.{never}
@@ -70,14 +70,19 @@ pub five-bad : (r : Row) → r .kind ≡ 5 → goodRow r ≡ false
 unfolding goodRow
 five-bad r e = rw (named-kind (r .kind) Other (inr (inl e))) (other-bad r)
 
--- of pixels and triggers the last four numbers are unused
-pub pixel-few : (r : Row) → unused (r .d ∷ r .e ∷ r .f ∷ r .g ∷ []) ≡ false → goodAs Pixel r ≡ false
-unfolding goodAs
-pixel-few r h = rw h (and-none (timely r && below 32768 (r .a ∷ r .b ∷ []) && ltb (r .c) 2))
+pub camera-bad : (r : Row) → r .kind ≡ 1 → 1 < r .d → goodRow r ≡ false
+unfolding goodRow goodAs
+camera-bad r e h =
+    rw (named-kind (r .kind) Pixel e, le-ltb (r .d) 2 h, and-none (ltb (r .c) 2), and-none (timely r && below 32768 (r .a ∷ r .b ∷ []))) refl
 
-pub trigger-few : (r : Row) → unused (r .d ∷ r .e ∷ r .f ∷ r .g ∷ []) ≡ false → goodAs Trigger r ≡ false
+-- of pixels and triggers the last three numbers are unused
+pub pixel-few : (r : Row) → unused (r .e ∷ r .f ∷ r .g ∷ []) ≡ false → goodAs Pixel r ≡ false
 unfolding goodAs
-trigger-few r h = rw (h, and-none (eqb (r .c) 0)) (and-none (timely r && ltb (r .a) 32 && ltb (r .b) 2))
+pixel-few r h = rw h (and-none (timely r && below 32768 (r .a ∷ r .b ∷ []) && below 2 (r .c ∷ r .d ∷ [])))
+
+pub trigger-few : (r : Row) → unused (r .e ∷ r .f ∷ r .g ∷ []) ≡ false → goodAs Trigger r ≡ false
+unfolding goodAs
+trigger-few r h = rw (h, and-none (eqb (r .d) 0), and-none (eqb (r .c) 0)) (and-none (timely r && ltb (r .a) 32 && ltb (r .b) 2))
 
 -- each of some numbers below a limit
 abbrev pub Below : ℕ → List ℕ → Type 0
@@ -104,7 +109,7 @@ good-timely r e = ltb-true _ _ (go (kindOf (r .kind)) e)
 
     go : (k : Kind) → goodAs k r ≡ true → timely r ≡ true
     go Pixel g =
-        and-first (timely r) _ (and-first (timely r && below 32768 (r .a ∷ r .b ∷ [])) _ (and-first _ (unused (r .d ∷ r .e ∷ r .f ∷ r .g ∷ [])) g))
+        and-first (timely r) _ (and-first (timely r && below 32768 (r .a ∷ r .b ∷ [])) _ (and-first _ (unused (r .e ∷ r .f ∷ r .g ∷ [])) g))
     go Trigger g = pair 32 2 g
     go ImuCounts g = and-first (timely r) _ (and-first _ (unused (r .g ∷ [])) g)
     go ImuSingles g = g
@@ -125,9 +130,12 @@ module _ (time : ℕ) (h : time < 17179869184) where
   timed-timely : (kind a b c d e f g : ℕ) → timely (timed kind time a b c d e f g) ≡ true
   timed-timely kind a b c d e f g = lt-ltb (timeOf (timed kind time a b c d e f g)) 17179869184 (omega (arith, timed-time kind time a b c d e f g))
 
-  pub pixel-good : (x y polarity : ℕ) → x < 32768 → y < 32768 → polarity < 2 → goodRow (pixelRow time x y polarity) ≡ true
+  pub camera-good : (x y polarity camera : ℕ) → x < 32768 → y < 32768 → polarity < 2 → camera < 2 → goodRow (cameraRow time x y polarity camera) ≡ true
   unfolding goodRow goodAs kindOf timed
-  pixel-good x y p hx hy hp = simp (timed-timely 1 x y p 0 0 0 0, lt-ltb _ _ hx, lt-ltb _ _ hy, lt-ltb _ _ hp)
+  camera-good x y p c hx hy hp hc = simp (timed-timely 1 x y p c 0 0 0, lt-ltb _ _ hx, lt-ltb _ _ hy, lt-ltb _ _ hp, lt-ltb _ _ hc)
+
+  pub pixel-good : (x y polarity : ℕ) → x < 32768 → y < 32768 → polarity < 2 → goodRow (pixelRow time x y polarity) ≡ true
+  pixel-good x y p hx hy hp = camera-good x y p 0 hx hy hp (lit< tt)
 
   pub trigger-good : (channel edge : ℕ) → channel < 32 → edge < 2 → goodRow (triggerRow time channel edge) ≡ true
   unfolding goodRow goodAs kindOf timed

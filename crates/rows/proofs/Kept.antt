@@ -5,8 +5,8 @@ use native.Mathlib.Omega.{arith}
 use lib.ListN.{length, drop, length-append, length-drop}
 use lib.Seq.{take-append-seam, drop-append-seam}
 use Rattle.rows.specs.Runs.{Ending, finished, refused, resume, andThen}
-use Rattle.rows.specs.Promises.{RowsOfFlat, FlatOfRows, OverKept, KindsNamed, FiveRefused, GoodTimely, MadeGood, GoodIsMade, VerdictWritable, AndThenGrouped}
-use Rattle.rows.proofs.GoodRows.{kind-named, named-kind, five-bad, timed-time, pixel-good, trigger-good, counts-good, singles-good, special-good}
+use Rattle.rows.specs.Promises.{RowsOfFlat, FlatOfRows, OverKept, KindsNamed, FiveRefused, CameraRefused, GoodTimely, MadeGood, GoodIsMade, VerdictWritable, AndThenGrouped}
+use Rattle.rows.proofs.GoodRows.{kind-named, named-kind, five-bad, camera-bad, timed-time, camera-good, trigger-good, counts-good, singles-good, special-good}
 use Rattle.rows.proofs.GoodRows as rules
 use Rattle.rows.proofs.Judged.{accepted-writable, writable-accepted}
 use Rattle.rows.proofs.Lists as lists
@@ -33,6 +33,9 @@ kinds-named n k = (kind-named n k, named-kind n k)
 pub five-refused : FiveRefused
 five-refused = five-bad
 
+pub camera-refused : CameraRefused
+camera-refused = camera-bad
+
 pub good-timely : GoodTimely
 good-timely = rules.good-timely
 
@@ -40,7 +43,7 @@ pub made-good : MadeGood
 made-good =
     record {
       time = timed-time;
-      pixel = λ t x y p h. pixel-good t h x y p;
+      pixel = λ t x y p c h. camera-good t h x y p c;
       trigger = λ t c e h. trigger-good t h c e;
       counts = λ t ax ay az rx ry rz h. counts-good t h ax ay az rx ry rz;
       singles = λ t ax ay az rx ry rz k h. singles-good t h ax ay az rx ry rz k;

@@ -9,7 +9,7 @@ use borrow.Author.Tests.{ltb-true, eqb-true}
 use Rattle.rows.specs.declared.row.Row.{Row}
 use Rattle.rows.specs.declared.rules.Kind.{Kind}
 use Rattle.rows.specs.declared.rules.Kind.the-variants.{Pixel, Trigger, ImuCounts, ImuSingles, Special}
-use Rattle.rows.specs.Row.{timeOf, timed, pixelRow, triggerRow, countsRow, singlesRow, specialRow}
+use Rattle.rows.specs.Row.{timeOf, timed, cameraRow, triggerRow, countsRow, singlesRow, specialRow}
 use Rattle.rows.specs.Rules.{below, unused, timely, goodPair, kindOf, goodAs, goodRow}
 use Rattle.rows.specs.Promises.{GoodMade}
 use Rattle.rows.proofs.GoodRows.{and-first, and-second, below-each}
@@ -40,20 +40,17 @@ module _ (r : Row) (good : goodRow r ≡ true) (narrow : r .low < 4294967296) wh
   in-time : timely r ≡ true → timeOf r < 17179869184
   in-time e = ltb-true _ _ e
 
-  pixel-made : r .kind ≡ 1 → (r ≡ pixelRow (timeOf r) (r .a) (r .b) (r .c)) × (timeOf r < 17179869184) × (r .a < 32768) × (r .b < 32768) × (r .c < 2)
+  pixel-made : r .kind ≡ 1 → (r ≡ cameraRow (timeOf r) (r .a) (r .b) (r .c) (r .d)) × (timeOf r < 17179869184)
+      × (r .a < 32768) × (r .b < 32768) × (r .c < 2) × (r .d < 2)
   unfolding goodAs kindOf
   pixel-made k =
-      let all : timely r && below 32768 (r .a ∷ r .b ∷ []) && ltb (r .c) 2 && unused (r .d ∷ r .e ∷ r .f ∷ r .g ∷ []) ≡ true = of-kind Pixel k refl in
-      let three = and-first (timely r && below 32768 (r .a ∷ r .b ∷ []) && ltb (r .c) 2) _ all in
+      let all : timely r && below 32768 (r .a ∷ r .b ∷ []) && below 2 (r .c ∷ r .d ∷ []) && unused (r .e ∷ r .f ∷ r .g ∷ []) ≡ true = of-kind Pixel k refl in
+      let three = and-first (timely r && below 32768 (r .a ∷ r .b ∷ []) && below 2 (r .c ∷ r .d ∷ [])) _ all in
       let two = and-first (timely r && below 32768 (r .a ∷ r .b ∷ [])) _ three in
-      let zero = unused-each (r .d ∷ r .e ∷ r .f ∷ r .g ∷ []) (and-second (timely r && below 32768 (r .a ∷ r .b ∷ []) && ltb (r .c) 2) _ all) in
-      let small = below-each 32768 (r .a ∷ r .b ∷ []) (and-second (timely r) _ two) in (
-        row-timed r narrow ∙ cc,
-        in-time (and-first (timely r) _ two),
-        small .0,
-        small .1 .0,
-        ltb-true _ _ (and-second (timely r && below 32768 (r .a ∷ r .b ∷ [])) _ three),
-      )
+      let zero = unused-each (r .e ∷ r .f ∷ r .g ∷ []) (and-second (timely r && below 32768 (r .a ∷ r .b ∷ []) && below 2 (r .c ∷ r .d ∷ [])) _ all) in
+      let small = below-each 32768 (r .a ∷ r .b ∷ []) (and-second (timely r) _ two) in
+      let bits = below-each 2 (r .c ∷ r .d ∷ []) (and-second (timely r && below 32768 (r .a ∷ r .b ∷ [])) _ three) in
+      (row-timed r narrow ∙ cc, in-time (and-first (timely r) _ two), small .0, small .1 .0, bits .0, bits .1 .0)
 
   -- triggers and special events
   pair-made : (first second : ℕ) → goodPair first second r ≡ true → (timeOf r < 17179869184) × (r .a < first) × (r .b < second) × Zeros (r .c ∷ r .d ∷ r .e ∷ r .f ∷ r .g ∷ [])

@@ -1,7 +1,7 @@
 -- The number of each refusal, and the numbers that an answer stands for.
 use Prim.Native.Nat.{ℕ}
 use Rattle.rows.specs.declared.fault.Fault.{Fault}
-use Rattle.rows.specs.declared.fault.Fault.the-variants.{TooLong, NoRoom, Reserved, Cut, BadTime, Outside, Slave, Stray, BadHeader, BadPacket, ClockReset, BadRow, BadList, BadPicture}
+use Rattle.rows.specs.declared.fault.Fault.the-variants.{TooLong, NoRoom, Reserved, Cut, BadTime, Outside, Stray, BadHeader, BadPacket, ClockReset, BadRow, BadList, BadPicture}
 use Rattle.rows.specs.declared.fault.Reading.{Reading}
 use Rattle.rows.specs.declared.fault.Reading.the-variants as reading
 use Rattle.rows.specs.declared.fault.ReadingNumbers.{ReadingNumbers}
@@ -9,7 +9,7 @@ use Rattle.rows.specs.declared.fault.Writing.{Writing}
 use Rattle.rows.specs.declared.fault.Writing.the-variants as writing
 use Rattle.rows.specs.declared.fault.WritingNumbers.{WritingNumbers}
 
--- 01, "Refusal numbers": the table
+-- 01, "Refusal numbers": the table. 02, R-9: 7 was a slave camera's bit; the number is not used again
 abbrev pub numberOf : Fault → ℕ
 numberOf TooLong = 1
 numberOf NoRoom = 2
@@ -17,7 +17,6 @@ numberOf Reserved = 3
 numberOf Cut = 4
 numberOf BadTime = 5
 numberOf Outside = 6
-numberOf Slave = 7
 numberOf Stray = 8
 numberOf BadHeader = 9
 numberOf BadPacket = 10

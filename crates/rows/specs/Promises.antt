@@ -9,7 +9,7 @@ use lib.Dec.{T}
 use Rattle.rows.specs.declared.row.Row.{Row}
 use Rattle.rows.specs.declared.rules.Kind.{Kind}
 use Rattle.rows.specs.declared.rules.Kind.the-variants.{Pixel, Trigger, ImuCounts, ImuSingles, Special, Other}
-use Rattle.rows.specs.Row.{flat, over, timeOf, rowsOf, timed, pixelRow, triggerRow, countsRow, singlesRow, specialRow}
+use Rattle.rows.specs.Row.{flat, over, timeOf, rowsOf, timed, cameraRow, pixelRow, triggerRow, countsRow, singlesRow, specialRow}
 use Rattle.rows.specs.Rules.{kindOf, goodRow, accepted, verdictFrom, Writable}
 use Rattle.rows.specs.Runs.{Run, andThen}
 
@@ -43,6 +43,10 @@ KindsNamed = (n : ℕ) (k : Kind) → ((kindOf n ≡ k) → Names n k) × (Names
 abbrev pub FiveRefused : Type 0
 FiveRefused = (r : Row) → r .kind ≡ 5 → goodRow r ≡ false
 
+-- 02, R-9: so is a pixel of a camera that is neither 0 nor 1
+abbrev pub CameraRefused : Type 0
+CameraRefused = (r : Row) → r .kind ≡ 1 → 1 < r .d → goodRow r ≡ false
+
 -- 01, "Rows": the time of every good row is within the limit
 abbrev pub GoodTimely : Type 0
 GoodTimely = (r : Row) → goodRow r ≡ true → timeOf r < 17179869184
@@ -50,7 +54,7 @@ GoodTimely = (r : Row) → goodRow r ≡ true → timeOf r < 17179869184
 -- a row has the time that it was made with, and one made from values within 01's limits is good
 pub record MadeGood : Type 0 where
   pub time : (kind t a b c d e f g : ℕ) → timeOf (timed kind t a b c d e f g) ≡ t
-  pub pixel : (t x y p : ℕ) → t < 17179869184 → x < 32768 → y < 32768 → p < 2 → goodRow (pixelRow t x y p) ≡ true
+  pub pixel : (t x y p camera : ℕ) → t < 17179869184 → x < 32768 → y < 32768 → p < 2 → camera < 2 → goodRow (cameraRow t x y p camera) ≡ true
   pub trigger : (t c e : ℕ) → t < 17179869184 → c < 32 → e < 2 → goodRow (triggerRow t c e) ≡ true
   pub counts : (t ax ay az rx ry rz : ℕ) → t < 17179869184 → ax < 65536 → ay < 65536 → az < 65536 → rx < 65536 → ry < 65536 → rz < 65536
       → goodRow (countsRow t ax ay az rx ry rz) ≡ true
@@ -59,7 +63,8 @@ pub record MadeGood : Type 0 where
 
 -- and a good row is the one made from its values, which are within the limits. (The lower half of a time has 32 bits in every slice.)
 pub record GoodMade (r : Row) : Type 0 where
-  pub pixel : r .kind ≡ 1 → (r ≡ pixelRow (timeOf r) (r .a) (r .b) (r .c)) × (timeOf r < 17179869184) × (r .a < 32768) × (r .b < 32768) × (r .c < 2)
+  pub pixel : r .kind ≡ 1 → (r ≡ cameraRow (timeOf r) (r .a) (r .b) (r .c) (r .d)) × (timeOf r < 17179869184)
+      × (r .a < 32768) × (r .b < 32768) × (r .c < 2) × (r .d < 2)
   pub trigger : r .kind ≡ 2 → (r ≡ triggerRow (timeOf r) (r .a) (r .b)) × (timeOf r < 17179869184) × (r .a < 32) × (r .b < 2)
   pub counts : r .kind ≡ 3 → (r ≡ countsRow (timeOf r) (r .a) (r .b) (r .c) (r .d) (r .e) (r .f)) × (timeOf r < 17179869184)
       × (r .a < 65536) × (r .b < 65536) × (r .c < 65536) × (r .d < 65536) × (r .e < 65536) × (r .f < 65536)

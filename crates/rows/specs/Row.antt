@@ -79,8 +79,12 @@ timed kind time a b c d e f g =
     record { kind = kind; low = time % 4294967296; high = time / 4294967296; a = a; b = b; c = c; d = d; e = e; f = f; g = g }
 
 -- the five kinds, each with its numbers in order; 5 was the USB packet, and is not given to another kind
+-- 02, R-9: a pixel of one of two cameras; and that of camera 0, as every format but EVT3 has it
+abbrev pub cameraRow : (time x y polarity camera : ℕ) → Row
+cameraRow time x y polarity camera = timed 1 time x y polarity camera 0 0 0
+
 abbrev pub pixelRow : (time x y polarity : ℕ) → Row
-pixelRow time x y polarity = timed 1 time x y polarity 0 0 0 0
+pixelRow time x y polarity = cameraRow time x y polarity 0
 
 abbrev pub triggerRow : (time channel edge : ℕ) → Row
 triggerRow time channel edge = timed 2 time channel edge 0 0 0 0 0

@@ -43,8 +43,8 @@ goodPair first second r = timely r && ltb (r .a) first && ltb (r .b) second && u
 
 -- what each kind asks of its row
 unfoldable pub goodAs : Kind → Row → Bool
--- x and y to 32,767, polarity 0 or 1
-goodAs Pixel r = timely r && below 32768 (r .a ∷ r .b ∷ []) && ltb (r .c) 2 && unused (r .d ∷ r .e ∷ r .f ∷ r .g ∷ [])
+-- x and y to 32,767, polarity 0 or 1; 02, R-9: camera 0 or 1
+goodAs Pixel r = timely r && below 32768 (r .a ∷ r .b ∷ []) && below 2 (r .c ∷ r .d ∷ []) && unused (r .e ∷ r .f ∷ r .g ∷ [])
 -- channel to 31, edge 0 or 1
 goodAs Trigger r = goodPair 32 2 r
 -- six counts to 65,535

@@ -2,7 +2,7 @@
 ghost use mathlib.Core.Path.{_≡_};
 ghost use Rattle.rows.specs.Fault.{numberOf, readingNumbers, writingNumbers};
 
-// Why an input is refused: one case for each number of the table, in its order.
+// Why an input is refused: one case for each number of the table, in its order. 7 was the bit of a slave camera, and is never used again.
 pub enum Fault {
     // 1: the input is longer than 1,073,741,824 bytes.
     TooLong,
@@ -16,8 +16,6 @@ pub enum Fault {
     BadTime,
     // 6: a coordinate outside the picture, or a polarity over 1.
     Outside,
-    // 7: the bit of a slave camera is set.
-    Slave,
     // 8: a word inside a group does not continue it.
     Stray,
     // 9: a bad text header, or a bad type or size after one.
@@ -79,7 +77,6 @@ impl Fault {
             Fault::Cut => 4,
             Fault::BadTime => 5,
             Fault::Outside => 6,
-            Fault::Slave => 7,
             Fault::Stray => 8,
             Fault::BadHeader => 9,
             Fault::BadPacket => 10,

@@ -3,7 +3,7 @@ ghost use mathlib.Core.Path.{_≡_};
 ghost use Prim.Native.Nat.{_+_, _≤_};
 ghost use lib.ListN.{length};
 ghost use lib.Seq.{sets};
-ghost use Rattle.rows.specs.Row.{timeOf, roomOf, rowAt, PutRow, timed, pixelRow, triggerRow, countsRow, singlesRow, specialRow};
+ghost use Rattle.rows.specs.Row.{timeOf, roomOf, rowAt, PutRow, timed, cameraRow, pixelRow, triggerRow, countsRow, singlesRow, specialRow};
 
 // A row: its kind, its time mod 2^32 and div 2^32, and seven numbers of the kind's own, unused ones 0.
 pub struct Row {
@@ -44,11 +44,18 @@ fn timed(kind: u32, time: u64, a: u32, b: u32, c: u32, d: u32, e: u32, f: u32, g
 }
 
 impl Row {
-    // Kind 1: a pixel at x, y; polarity 1 is brighter.
+    // Kind 1: a pixel at x, y of one of two cameras; polarity 1 is brighter.
+    pub fn camera_pixel(time: u64, x: u32, y: u32, polarity: u32, camera: u32) -> Row
+        ensures { λ r. ⌜ r ≡ cameraRow time x y polarity camera ⌝ }
+    {
+        timed(1, time, x, y, polarity, camera, 0, 0, 0)
+    }
+
+    // A pixel of camera 0.
     pub fn pixel(time: u64, x: u32, y: u32, polarity: u32) -> Row
         ensures { λ r. ⌜ r ≡ pixelRow time x y polarity ⌝ }
     {
-        timed(1, time, x, y, polarity, 0, 0, 0, 0)
+        Row::camera_pixel(time, x, y, polarity, 0)
     }
 
     // Kind 2: a trigger on a channel; edge 1 is rising.

@@ -64,9 +64,10 @@ fn is_pixel(row: Row) -> bool
     ensures { λ r. ⌜ r ≡ goodAs Kind.Pixel row ⌝ }
 {
     let timely = is_timely(row);
-    let below = are_below(32768, row.a, row.b, 0, 0, 0, 0);
-    let unused = are_unused(0, row.d, row.e, row.f, row.g);
-    timely & below & (row.c < 2) & unused
+    let within = are_below(32768, row.a, row.b, 0, 0, 0, 0);
+    let bits = are_below(2, row.c, row.d, 0, 0, 0, 0);
+    let unused = are_unused(0, 0, row.e, row.f, row.g);
+    timely & within & bits & unused
 }
 
 // Whether a row has two data numbers below their limits and no others, as triggers and special events have.

@@ -15,7 +15,7 @@ pub fn read(bytes: &[u8], width: u32, height: u32, rows: &mut [u32]) -> Result<u
     let (rows, _) = rows.as_chunks_mut();
     let (words, half) = bytes.as_chunks();
     let room = rows.len();
-    let mut reader = Reader { width, height, rows: rows.iter_mut(), wraps: 0, high: None, time: None, line: None, base: None };
+    let mut reader = Reader { width, height, rows: rows.iter_mut(), wraps: 0, high: None, time: None, y: None, camera: 0, base: None };
     for (index, &word) in words.iter().enumerate() {
         if let Err(refusal) = reader.word(u16::from_le_bytes(word)) {
             return fault(refusal, room - reader.rows.len(), 2 * index);
@@ -37,8 +37,9 @@ struct Reader<'a> {
     high: Option<u32>,
     /// The time as a row has it: the low 32 bits and the rest.
     time: Option<[u32; 2]>,
-    /// The line and the camera of the next pixels.
-    line: Option<(u32, u32)>,
+    y: Option<u32>,
+    /// The camera that was told with y.
+    camera: u32,
     /// The column and the polarity of the next vector's first pixel.
     base: Option<(u32, u32)>,
 }
@@ -49,7 +50,7 @@ impl Reader<'_> {
         let data = u32::from(word & 0xfff);
         let (top, address) = (data >> 11, data & 0x7ff);
         match word >> 12 {
-            0x0 => self.line = Some((address, top)),
+            0x0 => (self.y, self.camera) = (Some(address), top),
             0x2 => return self.pixel(address, top),
             0x3 => self.base = Some((address, top)),
             0x4 => return self.vector(data, 12),
@@ -84,18 +85,18 @@ impl Reader<'_> {
 
     #[inline(always)]
     fn pixel(&mut self, x: u32, polarity: u32) -> Result<(), Refusal> {
-        let (Some([low, high]), Some((y, camera))) = (self.time, self.line) else { return Ok(()) };
+        let (Some([low, high]), Some(y)) = (self.time, self.y) else { return Ok(()) };
         if x >= self.width || y >= self.height {
             return Err(OUTSIDE);
         }
-        *self.rows.next().ok_or(NO_ROOM)? = [1, low, high, x, y, polarity, camera, 0, 0, 0];
+        *self.rows.next().ok_or(NO_ROOM)? = [1, low, high, x, y, polarity, self.camera, 0, 0, 0];
         Ok(())
     }
 
     #[inline(always)]
     fn vector(&mut self, mut bits: u32, columns: u32) -> Result<(), Refusal> {
         let Some((x, polarity)) = self.base else { return Ok(()) };
-        if let (Some([low, high]), Some((y, camera)), Some(last)) = (self.time, self.line, bits.checked_ilog2()) {
+        if let (Some([low, high]), Some(y), Some(last)) = (self.time, self.y, bits.checked_ilog2()) {
             if x + last >= self.width || y >= self.height {
                 return Err(OUTSIDE);
             }
@@ -104,7 +105,7 @@ impl Reader<'_> {
                 return Err(NO_ROOM);
             }
             for row in self.rows.by_ref().take(pixels) {
-                *row = [1, low, high, x + bits.trailing_zeros(), y, polarity, camera, 0, 0, 0];
+                *row = [1, low, high, x + bits.trailing_zeros(), y, polarity, self.camera, 0, 0, 0];
                 bits &= bits - 1;
             }
         }
@@ -180,8 +181,8 @@ fn judge(rows: &[Row]) -> Result<usize, RowFault> {
 /// Whether a row is in the group of the one before it.
 #[inline(always)]
 fn joins(last: &Row, row: &Row) -> bool {
-    let differs = last[0] ^ row[0] | last[1] ^ row[1] | last[2] ^ row[2] | last[4] ^ row[4] | last[5] ^ row[5] | last[6] ^ row[6];
-    differs == 0 && row[0] == 1 && row[3] > last[3]
+    // kind and time, then y, polarity and camera: the compiler compares each three at once
+    last[..3] == row[..3] && last[4..7] == row[4..7] && row[0] == 1 && row[3] > last[3]
 }
 
 /// How many words bring the clock from the last time to the next one.

@@ -78,7 +78,7 @@ Prints a line for each row, of ten numbers: kind, time mod 4294967296, time div 
   6 special       type, data
 
 There is no kind 5. USB packets among EVT2 words give no row.
-Camera 0 is the only one or the master, camera 1 a slave on the same clock, which only EVT3 words tell apart. Rows of both stand in the order
+Camera 0 is the only one or a master, camera 1 a slave on the master's clock, which EVT3 words alone can have. Rows of both stand in the order
 of the recording.
 
   --events        the same in words, with the time in microseconds and IMU readings in g, degrees a second and degrees Celsius;
@@ -109,5 +109,5 @@ The rows have to be in the order of time, and at most 16777216.
 pub const REFUSALS: &str = "\
 ./fryskelom refusals
 
-Prints the numbers of all refusals, what was found, and what to do.
+Prints the numbers of all refusals, what was found, and what to do. There is no refusal 7: it was that of a slave camera, which is read now.
 ";

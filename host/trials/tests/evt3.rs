@@ -152,7 +152,7 @@ fn vectors_at_the_edge(comparer: &mut Comparer) {
     for width in [1u16, 12, 13, 2_048] {
         for base in width.saturating_sub(13)..=(width + 1).min(2_047) {
             for vector in (0x4000..=0x4fff).chain(0x5300..=0x53ff) {
-                let line = 0x0001 | base % 2 << 11;
+                let line = 0x0001 | (base % 2) << 11;
                 let words = [0x8000, 0x6000, line, 0x3000 | base, vector, 0x2000];
                 comparer.compare(&bytes_of(&words), (width.into(), 2));
             }

@@ -1,12 +1,12 @@
 //! The EVT3 writer of the library, and the hand-written one of the benchmark, against the second implementation: every set of columns at
-//! both ends of a line, groups of every sort broken off in every way, every number of wraps, and lists as they are for every writer.
-//! What was written is read back, and its words are counted.
+//! both ends of a line, groups of every sort broken off in every way, every line of either camera, every number of wraps, and lists as they
+//! are for every writer. What was written is read back, and its words are counted.
 #[path = "common/writers.rs"]
 mod writers;
 
 use fryskelom::read_evt3;
 use trials::samples::evt3::{a_start, list, Scene};
-use trials::samples::{pixel, trigger, Numbers, LAST_TIME};
+use trials::samples::{pixel, row, trigger, Numbers, LAST_TIME};
 use trials::second::evt3::groups;
 use trials::second::rows::{limits, time_of, Row, MOST_ROWS};
 use trials::second::words::Writing;
@@ -252,6 +252,17 @@ fn broken_lines(comparer: &mut Comparer) {
     }
 }
 
+/// A pixel of every line of either camera, and after it one of the same, the first and the last line of either camera.
+fn every_line(comparer: &mut Comparer) {
+    let of_both = |y: u32| [(y, 0), (y, 1)];
+    for (y, camera) in (0..2_048).flat_map(of_both) {
+        for (next_y, next_camera) in [y, 0, 2_047].into_iter().flat_map(of_both) {
+            let rows = [row(1, 4_098, [5, y, 1, camera, 0, 0, 0]), row(1, 4_098, [6, next_y, 1, next_camera, 0, 0, 0])];
+            comparer.compare(rows.as_flattened());
+        }
+    }
+}
+
 /// Every number of wraps, at once, from no time and from times with the high part 4,095 and others, to such times.
 fn every_wrap(comparer: &mut Comparer) {
     const PARTS: [u64; 5] = [0, 0x000_456, 0x123_456, 0xfff_000, 0xfff_fff];
@@ -265,11 +276,12 @@ fn every_wrap(comparer: &mut Comparer) {
     }
 }
 
-const FAMILIES: [Family<Reached>; 5] = [
+const FAMILIES: [Family<Reached>; 6] = [
     ("every set of columns", every_set_of_columns),
     ("every step", every_step),
     ("long lines", long_lines),
     ("broken lines", broken_lines),
+    ("every line", every_line),
     ("every wrap", every_wrap),
 ];
 
@@ -288,13 +300,15 @@ fn longest_list() {
     compare_longest::<Reached>([numbers::write_evt3, hand_written]);
 }
 
-/// As many rows as a list may have, each with a new time and a new line, and every fourth with a new high part.
+/// As many rows as a list may have, each with a new time and of the other camera, every other with a new line, and every fourth with a new
+/// high part.
 fn single_pixel(i: usize) -> Row {
-    pixel(1_024 * i as u64, i as u32 % 2_047, i as u32 % 2_048, 1)
+    let [x, y, camera] = [i % 2_047, i / 2 % 2_048, i % 2].map(|number| number as u32);
+    row(1, 1_024 * i as u64, [x, y, 1, camera, 0, 0, 0])
 }
 
 fn words_of_single_pixel(i: usize) -> impl Iterator<Item = usize> {
-    let words = [0x8000 + i / 4 % 4_096, 0x6000 + 1_024 * (i % 4), i % 2_048, 0x2800 + i % 2_047];
+    let words = [0x8000 + i / 4 % 4_096, 0x6000 + 1_024 * (i % 4), 2_048 * (i % 2) + i / 2 % 2_048, 0x2800 + i % 2_047];
     words.into_iter().skip((i % 4).min(1))
 }
 

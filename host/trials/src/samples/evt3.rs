@@ -12,7 +12,7 @@ pub enum Scene {
     Sparse,
     /// All of these in turn, with triggers; in a recording words that carry no event, in a list long pauses.
     Mixed,
-    /// The last one, by a master and a slave on one clock. Of all others the camera is 0.
+    /// The same, seen by a master and a slave on one clock. In all other scenes the camera is 0.
     TwoCameras,
 }
 

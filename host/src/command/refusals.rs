@@ -10,7 +10,7 @@ struct Rule {
     writing: &'static str,
 }
 
-/// One for each number. There is none for 7, which was that of a slave camera's bit.
+/// One for each number. 7 was that of a slave camera's bit, and no other refusal ever gets it.
 const RULES: [Rule; REFUSALS.len()] = [
     Rule {
         number: 1,

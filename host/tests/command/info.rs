@@ -126,7 +126,8 @@ fn two_cameras() {
     };
     assert_eq!(counted(&inputs::two_cameras()), "6\n    pixel: 5\n        of camera 0: 2\n        of camera 1: 3\n    trigger: 1\n");
     // the slave alone, and then the master alone
-    assert_eq!(counted(&evt3::bytes_of(&[0x8001, 0x6002, 0x0803, 0x2805])), "1\n    pixel: 1\n        of camera 0: 0\n        of camera 1: 1\n    trigger: 0\n");
+    let slave = evt3::bytes_of(&[0x8001, 0x6002, 0x0803, 0x2805]);
+    assert_eq!(counted(&slave), "1\n    pixel: 1\n        of camera 0: 0\n        of camera 1: 1\n    trigger: 0\n");
     assert_eq!(counted(&inputs::two_cameras()[..10]), "1\n    pixel: 1\n    trigger: 0\n");
     // of the part before a refusal too
     let stopped = "4 before the reading stopped\n    pixel: 4\n        of camera 0: 1\n        of camera 1: 3\n    trigger: 0\n";

@@ -1,7 +1,8 @@
 /* Fryskelom: events of an event camera's recording, read and written by a proved library.
  *
  * A buffer passes as a pointer and the number of its elements. No pointer is null, also where the number is 0, and no two
- * buffers of one call overlap; what a call does otherwise is not promised. Refusals have the numbers of the README's table. */
+ * buffers of one call overlap; what a call does otherwise is not promised. Refusals have the numbers of the README's table: 1 to 6 and
+ * 8 to 14. 7 was that of a slave camera's bit, which is read now; the number is never used again. */
 #ifndef FRYSKELOM_H
 #define FRYSKELOM_H
 
@@ -33,6 +34,8 @@ typedef struct {
  * (acceleration X, Y, Z in g, rotation X, Y, Z in degrees a second, temperature), +0 where there are none.
  * The kind is 1 (pixel), 2 (trigger), 3 (IMU counts), 4 (IMU singles) or 6 (special). 5 was that of USB packets, which give no
  * row any more: a row of it is not good, and the number is never used again.
+ * The data of a pixel are x, y, polarity (1 brighter), camera (0, or 1 for a slave on the same clock), and zeros. A row stored before cameras
+ * had numbers has 0 there, and so is of camera 0.
  * Refused: all else is 0. A NaN's payload stands in data alone. */
 typedef struct {
     uint64_t refusal, kind, time;
@@ -53,9 +56,10 @@ fry_event fry_event_of(const uint32_t *row, size_t len);
  * the group begins. OTHERS are passed over, also those that begin a USB packet, and so are CONTINUED outside an IMU group. */
 fry_reading fry_read_evt2(const uint8_t *bytes, size_t bytes_len, uint32_t width, uint32_t height, uint32_t *rows, size_t rows_len);
 
-/* Reads the EVT3 words of a recording. Refused at a word, in this order: 4, 3, 7, 5, 6, 2. A high part of the time that is lower than the one
+/* Reads the EVT3 words of a recording. Refused at a word, in this order: 4, 3, 5, 6, 2. A high part of the time that is lower than the one
  * before it by 2048 or more is a wrap of the clock, counted up to 1023 of them; one that is lower by 1 to 2047, and the 1024th wrap, are
- * refused 5. Which of two high parts is the damaged one cannot be told: the last times before such a refusal may be wrong too. */
+ * refused 5. Which of two high parts is the damaged one cannot be told: the last times before such a refusal may be wrong too.
+ * ADDR_Y says the camera of the pixels that follow it, as well as their line. The pixels of all other formats are of camera 0. */
 fry_reading fry_read_evt3(const uint8_t *bytes, size_t bytes_len, uint32_t width, uint32_t height, uint32_t *rows, size_t rows_len);
 
 /* Reads the text header of a RAW or DAT file: every line from the first byte on that starts with a percent sign and a space, its
@@ -89,14 +93,14 @@ fry_reading fry_read_dat(const uint8_t *bytes, size_t bytes_len, uint32_t *rows,
 fry_reading fry_read_aedat(const uint8_t *bytes, size_t bytes_len, uint32_t *rows, size_t rows_len);
 
 /* Writes the EVT2 words of rows, four bytes each, from out[0] on, and answers how many they are: seven a row at most. What
- * follows them is not touched. rows_len counts numbers, ten a row. Kinds 1, 2 and 3 are written, x and y below 2048, and no
- * row may be earlier than the one before it.
+ * follows them is not touched. rows_len counts numbers, ten a row. Kinds 1, 2 and 3 are written, x and y below 2048, pixels of camera 0
+ * alone, and no row may be earlier than the one before it.
  * Refused, in this order, and then nothing is touched: 13, row by row 12 and then 5, and 2 where out is too short. */
 fry_writing fry_write_evt2(const uint32_t *rows, size_t rows_len, uint8_t *out, size_t out_len);
 
 /* Writes the EVT3 words of rows, two bytes each. Always enough are four words a row, and two more for each wrap of the clock
- * (16777216 microseconds) up to the last row's time. Kinds 1 and 2 are written, channels below 16. All else, refusals and
- * their order among it, is as in fry_write_evt2. */
+ * (16777216 microseconds) up to the last row's time. Kinds 1 and 2 are written, pixels of cameras 0 and 1, channels below 16. All else,
+ * refusals and their order among it, is as in fry_write_evt2. */
 fry_writing fry_write_evt3(const uint32_t *rows, size_t rows_len, uint8_t *out, size_t out_len);
 
 #ifdef __cplusplus

@@ -18,8 +18,8 @@ pub const MOST_ROWS: usize = 16_777_216;
 pub const EVT_SIDE: u32 = 2_048;
 pub const DAT_SIDE: u32 = 16_384;
 
-/// How many refusals there are; their numbers are those from 1 on.
-pub const REFUSALS: usize = 14;
+/// The numbers of all refusals. 7 was that of a slave camera's bit, and no other refusal ever gets it.
+pub const REFUSALS: [u64; 13] = [1, 2, 3, 4, 5, 6, 8, 9, 10, 11, 12, 13, 14];
 
 /// Why an input was refused: the number of the README's table.
 #[derive(Clone, Copy, Debug, PartialEq, Eq)]
@@ -80,7 +80,7 @@ pub struct Event {
     pub kind: u64,
     /// Microseconds.
     pub time: u64,
-    /// The row's own seven data numbers.
+    /// The row's own seven data numbers. Those of a pixel are x, y, polarity and camera, 0 or 1, and then zeros.
     pub data: [u32; 7],
     /// Acceleration X, Y, Z in g, rotation X, Y, Z in degrees a second, temperature; +0 where the kind has none.
     pub readings: [f32; 7],
@@ -118,7 +118,7 @@ pub fn read_evt2(bytes: &[u8], width: u32, height: u32, rows: &mut [u32]) -> Res
     read_words(sys::fry_read_evt2, bytes, width, height, rows)
 }
 
-/// Reads EVT3 words; all else is as in [`read_evt2`].
+/// Reads EVT3 words, of one camera or of a master (camera 0) and a slave (1) on one clock; all else is as in [`read_evt2`].
 pub fn read_evt3(bytes: &[u8], width: u32, height: u32, rows: &mut [u32]) -> Result<usize, Fault> {
     read_words(sys::fry_read_evt3, bytes, width, height, rows)
 }
@@ -159,13 +159,14 @@ pub fn read_aedat(bytes: &[u8], rows: &mut [u32]) -> Result<usize, Fault> {
 }
 
 /// Writes a list of rows, ten numbers each, as EVT2 words of four bytes from the buffer's first byte on, and answers how many words
-/// there are: at most seven for a row. What follows them is left as it was, and all of the buffer where the list is refused.
+/// there are: at most seven for a row. What follows them is left as it was, and all of the buffer where the list is refused. EVT2 has no
+/// words for pixels of camera 1 (12).
 pub fn write_evt2(rows: &[u32], out: &mut [u8]) -> Result<usize, RowFault> {
     write_words(sys::fry_write_evt2, rows, out)
 }
 
-/// Writes a list of rows as EVT3 words of two bytes: at most four for a row, and two more for each wrap of the clock (16,777,216
-/// microseconds) up to the last row's time. All else is as in [`write_evt2`].
+/// Writes a list of rows, of either camera, as EVT3 words of two bytes: at most four for a row, and two more for each wrap of the clock
+/// (16,777,216 microseconds) up to the last row's time. All else is as in [`write_evt2`].
 pub fn write_evt3(rows: &[u32], out: &mut [u8]) -> Result<usize, RowFault> {
     write_words(sys::fry_write_evt3, rows, out)
 }

@@ -12,9 +12,9 @@ pub fn line(row: &[u32]) -> String {
 pub const KINDS: [(u64, &str); 5] = [(1, "pixel"), (2, "trigger"), (3, "IMU counts"), (4, "IMU singles"), (6, "special")];
 
 fn values(event: &Event) -> String {
-    let [a, b, c, ..] = event.data;
+    let [a, b, c, d, ..] = event.data;
     match event.kind {
-        1 => format!("x {a} y {b} {}", ["darker", "brighter"][c as usize]),
+        1 => format!("x {a} y {b} {} camera {d}", ["darker", "brighter"][c as usize]),
         2 => format!("channel {a} {}", ["falling", "rising"][b as usize]),
         3 => motion(event),
         4 => format!("{} temperature {} °C", motion(event), event.readings[6]),

@@ -86,7 +86,7 @@ pub const FORMATS: &[Format] = &[
         most_rows: |bytes| bytes / 4,
         first_rows: |bytes| bytes / 4,
         words: Some(Words {
-            holds: "pixels below 2048 by 2048, triggers of channels 0 to 31 and IMU counts",
+            holds: "pixels of camera 0 alone, below 2048 by 2048, triggers of channels 0 to 31 and IMU counts",
             size: 4,
             most: |rows, _| 7 * rows,
             write: write_evt2,
@@ -103,7 +103,7 @@ pub const FORMATS: &[Format] = &[
         most_rows: |bytes| (bytes / 2).saturating_mul(12),
         first_rows: |bytes| bytes / 2,
         words: Some(Words {
-            holds: "pixels below 2048 by 2048 and triggers of channels 0 to 15",
+            holds: "pixels of cameras 0 and 1, below 2048 by 2048, and triggers of channels 0 to 15",
             size: 2,
             most: |rows, last| 4 * rows + 2 * (last / EVT3_WRAP) as usize,
             write: write_evt3,

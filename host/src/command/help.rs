@@ -57,7 +57,8 @@ pub const INFO: &str = "\
 ./fryskelom info FILE [--format FORMAT] [--width N] [--height N]
 
 Prints the format, the size of the file, the lines of its header, the picture, how many events there are of each of the five kinds, and the
-first and the last time: the smallest and the largest, in whole microseconds.
+first and the last time: the smallest and the largest, in whole microseconds. Where there is a pixel of camera 1, also how many pixels there
+are of each camera.
 Of EVT3 words, whose clock begins anew every 16777216 microseconds, also how often it did so before the last event and before the first: more
 wraps between the two than the recording took time for mean a damaged clock.
 If the recording is refused, all this is of the part before; the refusal follows on standard error, and the status is 1.
@@ -70,13 +71,15 @@ pub const ROWS: &str = "\
 
 Prints a line for each row, of ten numbers: kind, time mod 4294967296, time div 4294967296, and seven numbers that the kind gives a meaning.
 
-  1 pixel         x, y, polarity (1 brighter, 0 darker)
+  1 pixel         x, y, polarity (1 brighter, 0 darker), camera (0 or 1)
   2 trigger       channel, edge (1 rising, 0 falling)
   3 IMU counts    acceleration X, Y, Z, rotation X, Y, Z, each 0 to 65535
   4 IMU singles   the bits of seven singles: as kind 3, then the temperature
   6 special       type, data
 
 There is no kind 5. USB packets among EVT2 words give no row.
+Camera 0 is the only one or a master, camera 1 a slave on the master's clock, which EVT3 words alone can have. Rows of both stand in the order
+of the recording.
 
   --events        the same in words, with the time in microseconds and IMU readings in g, degrees a second and degrees Celsius;
                   the point in a reading is a decimal point
@@ -106,5 +109,5 @@ The rows have to be in the order of time, and at most 16777216.
 pub const REFUSALS: &str = "\
 ./fryskelom refusals
 
-Prints the numbers of all refusals, what was found, and what to do.
+Prints the numbers of all refusals, what was found, and what to do. There is no refusal 7: it was that of a slave camera, which is read now.
 ";

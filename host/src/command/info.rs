@@ -34,16 +34,17 @@ fn about_rows(recording: &Recording, reading: &Reading) -> Vec<String> {
     let summary = Summary::of(reading.numbers());
     let part = if reading.stop.is_some() { " before the reading stopped" } else { "" };
     let mut lines = vec![format!("events: {}{part}", reading.rows())];
-    lines.extend(KINDS.map(|(kind, name)| format!("    {name}: {}", summary.kinds[kind as usize])));
+    lines.extend(summary.kinds());
     lines.extend(summary.times());
     lines.extend(recording.format.wrap.map(|wrap| summary.wraps(wrap)));
     lines
 }
 
-/// How many rows there are of each kind, by its number, and the smallest and the largest time.
+/// How many rows there are of each kind, by its number, how many pixels of each camera, and the smallest and the largest time.
 #[derive(Default)]
 struct Summary {
     kinds: [usize; 7],
+    cameras: [usize; 2],
     times: Option<(u64, u64)>,
 }
 
@@ -52,11 +53,26 @@ impl Summary {
         let mut summary = Summary::default();
         for row in numbers.chunks_exact(10) {
             summary.kinds[row[0] as usize] += 1;
+            if row[0] == 1 {
+                summary.cameras[row[6] as usize] += 1;
+            }
             let time = time_of(row);
             let (first, last) = summary.times.unwrap_or((time, time));
             summary.times = Some((first.min(time), last.max(time)));
         }
         summary
+    }
+
+    /// A line for each kind, and under pixels one for each camera where the second one has any.
+    fn kinds(&self) -> Vec<String> {
+        let mut lines = vec![];
+        for (kind, name) in KINDS {
+            lines.push(format!("    {name}: {}", self.kinds[kind as usize]));
+            if kind == 1 && self.cameras[1] > 0 {
+                lines.extend(self.cameras.iter().enumerate().map(|(camera, count)| format!("        of camera {camera}: {count}")));
+            }
+        }
+        lines
     }
 
     fn times(&self) -> [String; 3] {

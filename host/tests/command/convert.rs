@@ -1,5 +1,5 @@
 //! `convert`: what is written, what it reads back as, and that nothing is left where it fails.
-use super::inputs::{self, evt2_words, evt3_words, EVT3_ROWS};
+use super::inputs::{self, evt2_words, evt3_words, two_cameras, EVT3_ROWS};
 use super::run::{files, folder, run, run_after, run_fed, run_on};
 use std::fs;
 use std::os::unix::fs::symlink;
@@ -26,6 +26,24 @@ fn reading_back() {
             assert!(back.stdout == rows.stdout, "{format} to {words}");
         }
     }
+    assert_eq!(files(&folder), ["out", "recording"]);
+}
+
+/// EVT3 words hold the pixels of both cameras. EVT2 words are refused at the first one of camera 1.
+#[test]
+fn cameras_read_back() {
+    let folder = folder("cameras-read-back");
+    let bytes = evt3::recording(evt3::Scene::TwoCameras, (1_280, 720), 0, 3_000, &mut Numbers::new(0x5e83_0b6f_d29a_417c));
+    let rows = run_on(&folder, &bytes, &["rows", "recording", "--format", "evt3"]).good();
+    run(&folder, &["convert", "recording", "out", "--format", "evt3", "--to", "evt3"]).good();
+    assert!(run(&folder, &["rows", "out", "--format", "evt3"]).good().stdout == rows.stdout);
+    let events = run(&folder, &["rows", "recording", "--format", "evt3", "--events"]).good();
+    let (index, event) = events.text().lines().enumerate().find(|(_, event)| event.ends_with(" camera 1")).expect("a pixel of camera 1");
+    run(&folder, &["convert", "recording", "out2", "--format", "evt3", "--to", "evt2"]).failed(&format!(
+        "refused 12: a bad row, or one that the format cannot write\n\
+         at row {index} of recording (counted from 0): {event}; nothing was written\n\
+         {OTHER_WORDS}\n"
+    ));
     assert_eq!(files(&folder), ["out", "recording"]);
 }
 
@@ -88,11 +106,14 @@ fn the_most_words_for_a_row() {
     }
 }
 
+/// What to do about rows that the words asked for cannot hold.
+const OTHER_WORDS: &str = "what to do: try the other words, or use the rows as ./fryskelom rows prints them: EVT2 holds pixels of camera 0 alone, below \
+                           2048 by 2048, triggers and IMU counts, EVT3 pixels of cameras 0 and 1, below 2048 by 2048, and triggers of channels 0 to 15";
+
 /// A recording, its format, the words asked for, and the message.
-fn refused() -> [(Vec<u8>, &'static str, &'static str, String); 6] {
+fn refused() -> [(Vec<u8>, &'static str, &'static str, String); 7] {
     let unwritable = "refused 12: a bad row, or one that the format cannot write";
-    let other = "what to do: try the other words, or use the rows as ./fryskelom rows prints them: EVT2 holds pixels below 2048 by 2048, triggers and IMU counts, \
-                 EVT3 such pixels and triggers of channels 0 to 15";
+    let other = OTHER_WORDS;
     let imu = "65 µs IMU counts acceleration x 1 y -2 z 0 g rotation x 1 y 0 z -0.007633588 °/s";
     let back = "refused 5: a time goes back, is negative or passes the limit";
     let order =
@@ -111,7 +132,13 @@ fn refused() -> [(Vec<u8>, &'static str, &'static str, String); 6] {
             inputs::dat(),
             "dat",
             "evt3",
-            format!("{unwritable}\nat row 1 of recording (counted from 0): 12500100 µs pixel x 16383 y 479 darker; nothing was written\n{other}\n"),
+            format!("{unwritable}\nat row 1 of recording (counted from 0): 12500100 µs pixel x 16383 y 479 darker camera 0; nothing was written\n{other}\n"),
+        ),
+        (
+            two_cameras(),
+            "evt3",
+            "evt2",
+            format!("{unwritable}\nat row 1 of recording (counted from 0): 4098 µs pixel x 5 y 3 darker camera 1; nothing was written\n{other}\n"),
         ),
         // the USB packet before the pixel is no row
         (

@@ -115,6 +115,25 @@ fn a_usb_packet_is_no_event() {
     assert!(run.text().ends_with(NO_EVENTS), "{run:?}");
 }
 
+/// Pixels of each camera are counted where the second one has any.
+#[test]
+fn two_cameras() {
+    let folder = folder("cameras");
+    let counted = |bytes: &[u8]| {
+        let run = run_on(&folder, bytes, &["info", "recording", "--format", "evt3"]);
+        let (_, after) = run.text().split_once("events: ").expect("the number of events");
+        after.split_once("    IMU counts").expect("the kinds of events").0.to_string()
+    };
+    assert_eq!(counted(&inputs::two_cameras()), "6\n    pixel: 5\n        of camera 0: 2\n        of camera 1: 3\n    trigger: 1\n");
+    // the slave alone, and then the master alone
+    let slave = evt3::bytes_of(&[0x8001, 0x6002, 0x0803, 0x2805]);
+    assert_eq!(counted(&slave), "1\n    pixel: 1\n        of camera 0: 0\n        of camera 1: 1\n    trigger: 0\n");
+    assert_eq!(counted(&inputs::two_cameras()[..10]), "1\n    pixel: 1\n    trigger: 0\n");
+    // of the part before a refusal too
+    let stopped = "4 before the reading stopped\n    pixel: 4\n        of camera 0: 1\n        of camera 1: 3\n    trigger: 0\n";
+    assert_eq!(counted(&inputs::two_cameras()[..17]), stopped);
+}
+
 /// Of EVT3 words alone, bare or in a RAW file, and of the part before a refusal too.
 #[test]
 fn wraps_of_the_clock() {

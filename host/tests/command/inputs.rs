@@ -17,7 +17,7 @@ pub const EVT2_ROWS: &str = "\
 ";
 
 pub const EVT2_EVENTS: &str = "\
-66 µs pixel x 5 y 3 brighter
+66 µs pixel x 5 y 3 brighter camera 0
 64 µs trigger channel 6 rising
 65 µs IMU counts acceleration x 1 y -2 z 0 g rotation x 1 y 0 z -0.007633588 °/s
 ";
@@ -36,11 +36,34 @@ pub const EVT3_ROWS: &str = "\
 ";
 
 pub const EVT3_EVENTS: &str = "\
-4098 µs pixel x 5 y 3 brighter
-4098 µs pixel x 10 y 3 darker
-4098 µs pixel x 12 y 3 darker
-4098 µs pixel x 21 y 3 darker
+4098 µs pixel x 5 y 3 brighter camera 0
+4098 µs pixel x 10 y 3 darker camera 0
+4098 µs pixel x 12 y 3 darker camera 0
+4098 µs pixel x 21 y 3 darker camera 0
 33554433 µs trigger channel 15 falling
+";
+
+/// EVT3 words of a master and a slave: a pixel of each at the same place, two more of the slave, one more of the master, and a trigger.
+pub fn two_cameras() -> Vec<u8> {
+    evt3::bytes_of(&[0x8001, 0x6002, 0x0003, 0x2805, 0x0803, 0x2005, 0x300a, 0x4005, 0x6003, 0x0007, 0x2806, 0xa100])
+}
+
+pub const TWO_CAMERAS_ROWS: &str = "\
+1 4098 0 5 3 1 0 0 0 0
+1 4098 0 5 3 0 1 0 0 0
+1 4098 0 10 3 0 1 0 0 0
+1 4098 0 12 3 0 1 0 0 0
+1 4099 0 6 7 1 0 0 0 0
+2 4099 0 1 0 0 0 0 0 0
+";
+
+pub const TWO_CAMERAS_EVENTS: &str = "\
+4098 µs pixel x 5 y 3 brighter camera 0
+4098 µs pixel x 5 y 3 darker camera 1
+4098 µs pixel x 10 y 3 darker camera 1
+4098 µs pixel x 12 y 3 darker camera 1
+4099 µs pixel x 6 y 7 brighter camera 0
+4099 µs trigger channel 1 falling
 ";
 
 /// The header of a RAW file that says the width alone, with bytes that are no text.
@@ -62,8 +85,8 @@ pub const DAT_ROWS: &str = "\
 ";
 
 pub const DAT_EVENTS: &str = "\
-100 µs pixel x 5 y 3 brighter
-12500100 µs pixel x 16383 y 479 darker
+100 µs pixel x 5 y 3 brighter camera 0
+12500100 µs pixel x 16383 y 479 darker camera 0
 ";
 
 /// An AEDAT file: a pixel, an edge of an external input, another special event, and an IMU reading after 2^32 us.
@@ -83,19 +106,21 @@ pub const AEDAT_ROWS: &str = "\
 ";
 
 pub const AEDAT_EVENTS: &str = "\
-100 µs pixel x 32767 y 3 darker
+100 µs pixel x 32767 y 3 darker camera 0
 200 µs trigger channel 0 falling
 90000 µs special type 5 data 16777215
 4294967596 µs IMU singles acceleration x 1 y -2.5 z 0.5 g rotation x 131.25 y 0 z -0.25 °/s temperature 21.5 °C
 ";
 
-/// A recording of each format: the name of the format, its bytes, its rows and its events.
-pub fn all() -> [(&'static str, Vec<u8>, &'static str, &'static str); 6] {
+/// A recording of each format, and of two cameras where the format has them: the name of the format, its bytes, its rows and its events.
+pub fn all() -> [(&'static str, Vec<u8>, &'static str, &'static str); 8] {
     [
         ("evt2", evt2_words(), EVT2_ROWS, EVT2_EVENTS),
         ("evt3", evt3_words(), EVT3_ROWS, EVT3_EVENTS),
+        ("evt3", two_cameras(), TWO_CAMERAS_ROWS, TWO_CAMERAS_EVENTS),
         ("raw-evt2", raw(evt2_words()), EVT2_ROWS, EVT2_EVENTS),
         ("raw-evt3", raw(evt3_words()), EVT3_ROWS, EVT3_EVENTS),
+        ("raw-evt3", raw(two_cameras()), TWO_CAMERAS_ROWS, TWO_CAMERAS_EVENTS),
         ("dat", dat(), DAT_ROWS, DAT_EVENTS),
         ("aedat", aedat(), AEDAT_ROWS, AEDAT_EVENTS),
     ]

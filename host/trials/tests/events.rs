@@ -81,6 +81,26 @@ fn no_kind_5() {
     }
 }
 
+/// A pixel's fourth data number is its camera, 0 or 1; of all other kinds it has the meaning that it had.
+#[test]
+fn cameras() {
+    let mut numbers = Numbers::new(0x2f7e_c4a1_8d36_905b);
+    for _ in 0..100_000 {
+        let time = u64::from(numbers.below(4)) << 32 | u64::from(numbers.any());
+        let [x, y, polarity] = [32_768, 32_768, 2].map(|limit| numbers.below(limit));
+        for camera in [0, 1, 2, 3, 255, 256, 65_536, 1 << 31, u32::MAX] {
+            let row = row(1, time, [x, y, polarity, camera, 0, 0, 0]);
+            assert_eq!(compare(&row), if camera < 2 { 0 } else { 12 }, "camera {camera}");
+            if camera < 2 {
+                assert_eq!(event_of(&row).expect("a good row").data, [x, y, polarity, camera, 0, 0, 0]);
+            }
+        }
+    }
+    for (kind, refusal) in [(2, 12), (3, 0), (4, 0), (6, 12)] {
+        assert_eq!(compare(&row(kind, 7, [0, 0, 0, 1, 0, 0, 0])), refusal, "kind {kind}");
+    }
+}
+
 #[test]
 fn every_type_of_special_event() {
     for code in 0..=255 {

@@ -4,13 +4,12 @@
 #[path = "common/readers.rs"]
 mod readers;
 
-use fryskelom::REFUSALS;
 use readers::{a_picture, answer, compare_all, compare_longest, damage, often, Answer, Family, Reached as _, LARGEST};
 use trials::samples::evt2::{a_start, bytes_of, recording, Scene};
 use trials::samples::{Numbers, Picture};
 use trials::second::rows::time_of;
 use trials::second::words::Reading;
-use trials::{fast, numbers, second};
+use trials::{fast, numbers, second, LAST_REFUSAL};
 
 fn hand_written(bytes: &[u8], width: u32, height: u32, rows: &mut [u32]) -> Answer {
     answer(fast::evt2::read(bytes, width, height, rows))
@@ -257,7 +256,7 @@ fn clocks(comparer: &mut Comparer) {
 /// USB packets between the words of any recording change no row. Where it is refused, it still is, by the same number and at the same word.
 fn packets_between_words(comparer: &mut Comparer) {
     let mut numbers = Numbers::new(0x7a1c_e03b_5d94_68f7);
-    let mut refused = [0; REFUSALS + 1];
+    let mut refused = [0; LAST_REFUSAL + 1];
     for _ in 0..100_000 {
         let picture = a_picture(&mut numbers);
         let bytes = any_recording(picture, &mut numbers);

@@ -1,15 +1,16 @@
 //! The EVT2 writer of the library, and the hand-written one of the benchmark, against the second implementation: lists that can be
-//! written, into buffers of every length, and lists in which any number of any row breaks any rule. What was written is read back.
+//! written, into buffers of every length, lists of two cameras, and lists in which any number of any row breaks any rule. What was written is
+//! read back.
 #[path = "common/writers.rs"]
 mod writers;
 
 use fryskelom::{read_evt2, Refusal, RowFault};
 use trials::samples::evt2::{a_start, list, Scene};
-use trials::samples::{imu, Numbers};
+use trials::samples::{evt3, imu, Numbers};
 use trials::second::rows::{limits, time_of, Row, MOST_ROWS};
 use trials::second::words::Writing;
 use trials::{fast, numbers, second};
-use writers::{answer, compare_all, compare_longest, often, write_longest, Answer};
+use writers::{answer, compare_all, compare_longest, often, write_longest, Answer, Family, Reached as _};
 
 fn hand_written(rows: &[u32], out: &mut [u8]) -> Answer {
     answer(fast::evt2::write(rows, out))
@@ -38,7 +39,11 @@ impl writers::Reached for Reached {
     }
 
     fn limits(kind: u32) -> Option<[u64; 7]> {
-        Some(limits(kind)?.map(|limit| if limit == 32_768 { 2_048 } else { limit }))
+        match kind {
+            // x, y, polarity, and no camera but 0
+            1 => Some([2_048, 2_048, 2, 1, 1, 1, 1]),
+            _ => limits(kind),
+        }
     }
 
     fn a_list(most_events: u32, numbers: &mut Numbers) -> Vec<Row> {
@@ -60,14 +65,37 @@ impl writers::Reached for Reached {
     }
 }
 
+type Comparer = writers::Comparer<Reached>;
+
+/// Lists of two cameras, which EVT3 can write, are refused at the first pixel of camera 1; of camera 0 alone they can be written.
+fn two_cameras(comparer: &mut Comparer) {
+    let mut numbers = Numbers::new(0x38c1_6f0e_b7d5_2a94);
+    let mut refused = [0; 4];
+    for _ in 0..20_000 {
+        let mut rows = evt3::list(evt3::Scene::TwoCameras, (2_048, 2_048), evt3::a_start(&mut numbers), 1 + numbers.below(20) as usize, &mut numbers);
+        let of_slave = |row: &Row| row[0] == 1 && row[6] == 1;
+        if let Some(first) = rows.iter().position(of_slave) {
+            assert_eq!(Reached::second(rows.as_flattened(), usize::MAX).answer(), (12, first as u64), "{rows:?}");
+            comparer.compare(rows.as_flattened());
+            refused[first.min(3)] += 1;
+        }
+        rows.iter_mut().filter(|row| of_slave(row)).for_each(|row| row[6] = 0);
+        assert_eq!(Reached::second(rows.as_flattened(), usize::MAX).refusal, 0, "{rows:?}");
+        comparer.compare(rows.as_flattened());
+    }
+    refused.iter().enumerate().for_each(|(index, &count)| often("camera 1 at row", index, count));
+}
+
+const FAMILIES: [Family<Reached>; 1] = [("two cameras", two_cameras)];
+
 #[test]
 fn library() {
-    compare_all::<Reached>(numbers::write_evt2, read_evt2, &[]);
+    compare_all(numbers::write_evt2, read_evt2, &FAMILIES);
 }
 
 #[test]
 fn hand_written_writer() {
-    compare_all::<Reached>(hand_written, fast::evt2::read, &[]);
+    compare_all(hand_written, fast::evt2::read, &FAMILIES);
 }
 
 #[test]

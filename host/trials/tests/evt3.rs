@@ -18,9 +18,12 @@ fn hand_written(bytes: &[u8], width: u32, height: u32, rows: &mut [u32]) -> Answ
 #[derive(Default)]
 struct Reached {
     words: [usize; 16],
+    /// ADDR_Y after another one, by whether they change the line and whether they change the camera.
+    lines: [[usize; 2]; 2],
     /// Vectors by the number of pixels they gave.
     vectors: [usize; 13],
-    polarities: [usize; 2],
+    /// Pixels by camera and by polarity.
+    pixels: [[usize; 2]; 2],
     edges: [usize; 2],
     /// Rows after the clock has wrapped.
     wrapped: usize,
@@ -70,14 +73,14 @@ type Comparer = readers::Comparer<Reached>;
 impl readers::Reached for Reached {
     const SIZE: usize = 2;
 
-    const REFUSED: &'static [(usize, &'static [usize])] = &[(2, &[2, 4, 5, 10]), (3, &[1, 9, 11, 12, 13]), (5, &[8]), (6, &[2, 4, 5]), (7, &[0])];
+    const REFUSED: &'static [(usize, &'static [usize])] = &[(2, &[2, 4, 5, 10]), (3, &[1, 9, 11, 12, 13]), (5, &[8]), (6, &[2, 4, 5])];
 
     fn second(bytes: &[u8], width: u32, height: u32, room: usize) -> Reading {
         second::evt3::read(bytes, width, height, room)
     }
 
     fn a_recording(picture: Picture, most_events: u32, numbers: &mut Numbers) -> Vec<u8> {
-        let scene = numbers.one_of(&[Scene::Pixels, Scene::Dense, Scene::Sparse, Scene::Mixed, Scene::Mixed]);
+        let scene = numbers.one_of(&[Scene::Pixels, Scene::Dense, Scene::Sparse, Scene::Mixed, Scene::TwoCameras, Scene::TwoCameras]);
         // any time, or one from which the clock soon wraps
         let start = if numbers.once_in(2) { u64::from(numbers.any()) } else { (1 << 24) - 1 - u64::from(numbers.below(64)) };
         let events = 1 + numbers.below(most_events) as usize;
@@ -87,9 +90,13 @@ impl readers::Reached for Reached {
     fn count(&mut self, bytes: &[u8], reading: &Reading, kind: impl Fn(usize) -> usize) {
         let refused = reading.refusal == 5;
         let read = reading.given.len() + usize::from(refused);
-        let words = bytes.chunks_exact(2).take(read).map(|word| u16::from_le_bytes([word[0], word[1]]));
-        let high_parts: Vec<u16> = words.filter(|word| word >> 12 == 8).map(|word| word & 0xfff).collect();
-        self.clock.count(&high_parts, refused);
+        let words = || bytes.chunks_exact(2).take(read).map(|word| u16::from_le_bytes([word[0], word[1]]));
+        let data_of = |kind: u16| words().filter(|word| word >> 12 == kind).map(|word| word & 0xfff).collect::<Vec<u16>>();
+        self.clock.count(&data_of(8), refused);
+        for pair in data_of(0).windows(2) {
+            let changed = pair[0] ^ pair[1];
+            self.lines[usize::from(changed & 0x7ff != 0)][usize::from(changed >> 11)] += 1;
+        }
         for (index, &given) in reading.given.iter().enumerate() {
             self.words[kind(index)] += 1;
             if let 4 | 5 = kind(index) {
@@ -99,7 +106,7 @@ impl readers::Reached for Reached {
         for row in &reading.rows {
             self.wrapped += usize::from(row[1] >= 1 << 24 || row[2] > 0);
             match row[0] {
-                1 => self.polarities[row[5] as usize] += 1,
+                1 => self.pixels[row[6] as usize][row[5] as usize] += 1,
                 _ => self.edges[row[4] as usize] += 1,
             }
         }
@@ -109,7 +116,13 @@ impl readers::Reached for Reached {
         for kind in [0, 2, 3, 4, 5, 6, 7, 8, 10, 14, 15] {
             often("words of type", kind, self.words[kind]);
         }
-        for (what, counts) in [("vectors with pixels", &self.vectors[..]), ("polarity", &self.polarities), ("edge", &self.edges)] {
+        let sorts = [
+            ("line and camera changed or not", self.lines.as_flattened()),
+            ("vectors with pixels", &self.vectors),
+            ("camera and polarity", self.pixels.as_flattened()),
+            ("edge", &self.edges),
+        ];
+        for (what, counts) in sorts {
             counts.iter().enumerate().for_each(|(which, &count)| often(what, which, count));
         }
         often("rows after wraps, at least", 1, self.wrapped);
@@ -120,7 +133,7 @@ impl readers::Reached for Reached {
 /// Every word, after words that make each part of the state known or leave it unknown, and before words that show the state.
 fn every_word(comparer: &mut Comparer) {
     const CLOCKS: [&[u16]; 3] = [&[], &[0x8800], &[0x8800, 0x6123]];
-    const LINES: [&[u16]; 2] = [&[], &[0x0009]];
+    const LINES: [&[u16]; 3] = [&[], &[0x0009], &[0x0809]];
     const BASES: [&[u16]; 2] = [&[], &[0x3ff4]];
     const SHOWN_BY: [u16; 6] = [0xa500, 0x2007, 0x6456, 0xa501, 0x4001, 0x5fff];
     for clock in CLOCKS {
@@ -134,12 +147,13 @@ fn every_word(comparer: &mut Comparer) {
     }
 }
 
-/// Every vector, from bases that lead up to, over and past the last column.
+/// Every vector, from bases that lead up to, over and past the last column, of the one camera and of the other.
 fn vectors_at_the_edge(comparer: &mut Comparer) {
     for width in [1u16, 12, 13, 2_048] {
         for base in width.saturating_sub(13)..=(width + 1).min(2_047) {
             for vector in (0x4000..=0x4fff).chain(0x5300..=0x53ff) {
-                let words = [0x8000, 0x6000, 0x0001, 0x3000 | base, vector, 0x2000];
+                let line = 0x0001 | (base % 2) << 11;
+                let words = [0x8000, 0x6000, line, 0x3000 | base, vector, 0x2000];
                 comparer.compare(&bytes_of(&words), (width.into(), 2));
             }
         }
@@ -177,7 +191,7 @@ fn likely_word((width, height): Picture, numbers: &mut Numbers) -> u16 {
     let kind = if wrong { numbers.below(16) as u16 } else { numbers.one_of(&KINDS) };
     let data = match kind {
         _ if wrong => numbers.any(),
-        0 => numbers.below(height),
+        0 => numbers.below(height) | numbers.below(2) << 11,
         2 | 3 => numbers.below(width) | numbers.below(2) << 11,
         4 | 5 if numbers.once_in(2) => numbers.any() & numbers.any() & numbers.any(),
         // a few high parts, so that some are equal, some wrap and some fall by less

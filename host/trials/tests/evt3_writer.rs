@@ -1,12 +1,12 @@
 //! The EVT3 writer of the library, and the hand-written one of the benchmark, against the second implementation: every set of columns at
-//! both ends of a line, groups of every sort broken off in every way, every number of wraps, and lists as they are for every writer.
-//! What was written is read back, and its words are counted.
+//! both ends of a line, groups of every sort broken off in every way, every line of either camera, every number of wraps, and lists as they
+//! are for every writer. What was written is read back, and its words are counted.
 #[path = "common/writers.rs"]
 mod writers;
 
 use fryskelom::read_evt3;
 use trials::samples::evt3::{a_start, list, Scene};
-use trials::samples::{pixel, trigger, Numbers, LAST_TIME};
+use trials::samples::{pixel, row, trigger, Numbers, LAST_TIME};
 use trials::second::evt3::groups;
 use trials::second::rows::{limits, time_of, Row, MOST_ROWS};
 use trials::second::words::Writing;
@@ -23,6 +23,8 @@ fn hand_written(rows: &[u32], out: &mut [u8]) -> Answer {
 #[derive(Default)]
 struct Reached {
     words: [usize; 16],
+    /// ADDR_Y after another one, by whether only the line is new, only the camera, or both.
+    lines: [usize; 3],
     /// Vectors by the number of their pixels: those after BASE_X, and those after another vector.
     vectors: [[usize; 13]; 2],
     /// Neighbours in a group by the columns between them, 0 to 24 or more.
@@ -31,8 +33,8 @@ struct Reached {
     sides: [usize; 2],
     /// Groups with as many words as they have events, and with as many as their columns allow.
     bounds: [usize; 2],
-    /// Groups by what alone ends them: a trigger, a new time, line or polarity, the same column, one to the left.
-    ended: [usize; 6],
+    /// Groups by what alone ends them: a trigger, a new time, line, polarity or camera, the same column, one to the left.
+    ended: [usize; 7],
     /// Wraps, those from the high part 4,095 apart, by how many are crossed at once: one, two, more, all.
     wraps: [[usize; 4]; 2],
     /// Events with a new time but the same low part.
@@ -67,7 +69,7 @@ impl writers::Reached for Reached {
     }
 
     fn a_list(most_events: u32, numbers: &mut Numbers) -> Vec<Row> {
-        let scene = numbers.one_of(&[Scene::Pixels, Scene::Dense, Scene::Sparse, Scene::Mixed]);
+        let scene = numbers.one_of(&[Scene::Pixels, Scene::Dense, Scene::Sparse, Scene::Mixed, Scene::TwoCameras]);
         list(scene, (2_048, 2_048), a_start(numbers), 1 + numbers.below(most_events) as usize, numbers)
     }
 
@@ -80,6 +82,7 @@ impl writers::Reached for Reached {
                 self.vectors[usize::from(words[index - 1].0 == 4)][given] += 1;
             }
         }
+        self.count_lines(bytes);
         let groups = groups(rows);
         self.count_groups(&groups, &words);
         self.count_ends(&groups);
@@ -89,6 +92,7 @@ impl writers::Reached for Reached {
     fn check(&self) {
         [0, 2, 3, 4, 6, 8, 10].iter().for_each(|&kind| often("words of type", kind, self.words[kind]));
         let all = |what: &str, counts: &[usize]| counts.iter().enumerate().for_each(|(which, &count)| often(what, which, count));
+        all("lines, only the line new, only the camera, or both", &self.lines);
         all("vectors after a base, with pixels less two", &self.vectors[0][2..]);
         all("vectors after a vector, with pixels less one", &self.vectors[1][1..]);
         all("gaps of columns", &self.gaps[..25]);
@@ -103,6 +107,21 @@ impl writers::Reached for Reached {
 }
 
 impl Reached {
+    /// No ADDR_Y says again what the last one said.
+    fn count_lines(&mut self, bytes: &[u8]) {
+        let words = bytes.chunks(2).map(|word| u16::from_le_bytes([word[0], word[1]]));
+        let lines: Vec<(u16, u16)> = words.filter(|word| word >> 12 == 0).map(|line| (line % 2_048, line / 2_048)).collect();
+        for pair in lines.windows(2) {
+            let which = match (pair[0].0 != pair[1].0, pair[0].1 != pair[1].1) {
+                (true, false) => 0,
+                (false, true) => 1,
+                (true, true) => 2,
+                (false, false) => panic!("the same line twice: {lines:?}"),
+            };
+            self.lines[which] += 1;
+        }
+    }
+
     /// Holds the words for each group's columns to their bound. Words are given as their types and how many rows each gives.
     fn count_groups(&mut self, groups: &[&[Row]], words: &[(u8, usize)]) {
         let mut words = words.iter().filter(|(kind, _)| [2, 3, 4, 10].contains(kind));
@@ -132,8 +151,8 @@ impl Reached {
             let (last, next) = (pair[0][pair[0].len() - 1], pair[1][0]);
             let time = time_of(&last) != time_of(&next);
             let ends = match next[0] {
-                2 => [true, time, false, false, false, false],
-                _ => [false, time, last[4] != next[4], last[5] != next[5], last[3] == next[3], last[3] > next[3]],
+                2 => [true, time, false, false, false, false, false],
+                _ => [false, time, last[4] != next[4], last[5] != next[5], last[6] != next[6], last[3] == next[3], last[3] > next[3]],
             };
             if last[0] == 1 && ends.iter().filter(|&&end| end).count() == 1 {
                 ends.iter().zip(&mut self.ended).for_each(|(&end, count)| *count += usize::from(end));
@@ -212,7 +231,7 @@ fn broken_lines(comparer: &mut Comparer) {
     for _ in 0..500 {
         let steps: Vec<u32> = (0..12).map(|_| 1 + numbers.below(24)).collect();
         let whole = line(numbers.below(1_700), &steps);
-        for (place, way) in (0..whole.len()).flat_map(|place| (0..8).map(move |way| (place, way))) {
+        for (place, way) in (0..whole.len()).flat_map(|place| (0..10).map(move |way| (place, way))) {
             let mut rows = whole.clone();
             let [_, low, _, x, y, polarity, ..] = rows[place];
             match way {
@@ -222,9 +241,23 @@ fn broken_lines(comparer: &mut Comparer) {
                 3 => rows[place..].iter_mut().for_each(|row| row[1] = low + 3 * WRAP as u32),
                 4 => rows[place..].iter_mut().for_each(|row| row[4] = y + 1),
                 5 => rows[place..].iter_mut().for_each(|row| row[5] = 1 - polarity),
-                6 => rows.insert(place, rows[place]),
+                6 => rows[place..].iter_mut().for_each(|row| row[6] = 1),
+                // one pixel of the other camera, and of the same line
+                7 => rows[place][6] = 1,
+                8 => rows.insert(place, rows[place]),
                 _ => rows[place][3] = numbers.below(x + 1),
             }
+            comparer.compare(rows.as_flattened());
+        }
+    }
+}
+
+/// A pixel of every line of either camera, and after it one of the same, the first and the last line of either camera.
+fn every_line(comparer: &mut Comparer) {
+    let of_both = |y: u32| [(y, 0), (y, 1)];
+    for (y, camera) in (0..2_048).flat_map(of_both) {
+        for (next_y, next_camera) in [y, 0, 2_047].into_iter().flat_map(of_both) {
+            let rows = [row(1, 4_098, [5, y, 1, camera, 0, 0, 0]), row(1, 4_098, [6, next_y, 1, next_camera, 0, 0, 0])];
             comparer.compare(rows.as_flattened());
         }
     }
@@ -243,11 +276,12 @@ fn every_wrap(comparer: &mut Comparer) {
     }
 }
 
-const FAMILIES: [Family<Reached>; 5] = [
+const FAMILIES: [Family<Reached>; 6] = [
     ("every set of columns", every_set_of_columns),
     ("every step", every_step),
     ("long lines", long_lines),
     ("broken lines", broken_lines),
+    ("every line", every_line),
     ("every wrap", every_wrap),
 ];
 
@@ -266,13 +300,15 @@ fn longest_list() {
     compare_longest::<Reached>([numbers::write_evt3, hand_written]);
 }
 
-/// As many rows as a list may have, each with a new time and a new line, and every fourth with a new high part.
+/// As many rows as a list may have, each with a new time and of the other camera, every other with a new line, and every fourth with a new
+/// high part.
 fn single_pixel(i: usize) -> Row {
-    pixel(1_024 * i as u64, i as u32 % 2_047, i as u32 % 2_048, 1)
+    let [x, y, camera] = [i % 2_047, i / 2 % 2_048, i % 2].map(|number| number as u32);
+    row(1, 1_024 * i as u64, [x, y, 1, camera, 0, 0, 0])
 }
 
 fn words_of_single_pixel(i: usize) -> impl Iterator<Item = usize> {
-    let words = [0x8000 + i / 4 % 4_096, 0x6000 + 1_024 * (i % 4), i % 2_048, 0x2800 + i % 2_047];
+    let words = [0x8000 + i / 4 % 4_096, 0x6000 + 1_024 * (i % 4), 2_048 * (i % 2) + i / 2 % 2_048, 0x2800 + i % 2_047];
     words.into_iter().skip((i % 4).min(1))
 }
 

@@ -68,13 +68,17 @@ static void show_writing(writer *write, const uint32_t *rows, size_t len) {
 
 int main(void) {
     const uint32_t imu[10] = {3, 7, 1, 16384, 32768, 0, 131, 65405, 262, 0};
+    const uint32_t slave[10] = {1, 66, 0, 5, 3, 1, 1, 0, 0, 0};
     const uint32_t bad[10] = {2, 7, 1, 32, 1, 0, 0, 0, 0, 0};
     show(imu, 10);
+    show(slave, 10);
     show(bad, 10);
     show(imu, 9);
     const uint8_t evt3[10] = {0x01, 0x80, 0x02, 0x60, 0x03, 0x00, 0x05, 0x28, 0x00, 0x10};
     show_reading(fry_read_evt3, evt3, 8);
     show_reading(fry_read_evt3, evt3, 10);
+    const uint8_t cameras[12] = {0x01, 0x80, 0x02, 0x60, 0x03, 0x00, 0x05, 0x28, 0x03, 0x08, 0x05, 0x28};
+    show_reading(fry_read_evt3, cameras, 12);
     const uint8_t evt2[12] = {0x01, 0x00, 0x00, 0x80, 0x03, 0x28, 0x80, 0x10, 0x00, 0x00, 0x00, 0x20};
     show_reading(fry_read_evt2, evt2, 8);
     show_reading(fry_read_evt2, evt2, 12);
@@ -83,6 +87,8 @@ int main(void) {
     show_writing(fry_write_evt2, list, 20);
     show_writing(fry_write_evt3, list, 10);
     show_writing(fry_write_evt3, list, 20);
+    show_writing(fry_write_evt2, slave, 10);
+    show_writing(fry_write_evt3, slave, 10);
     show_header(26, 2048);
     show_header(13, 2048);
     show_header(20, 2048);
@@ -104,16 +110,20 @@ int main(void) {
 
 const EXPECTED: &str = "\
 0 3 4294967303 16384 32768 0 131 65405 262 0 3f800000 c0000000 00000000 3f800000 bf800000 40000000 00000000
+0 1 66 5 3 1 1 0 0 0 00000000 00000000 00000000 00000000 00000000 00000000 00000000
 12 0 0 0 0 0 0 0 0 0 00000000 00000000 00000000 00000000 00000000 00000000 00000000
 13 0 0 0 0 0 0 0 0 0 00000000 00000000 00000000 00000000 00000000 00000000 00000000
 0 1 0 1 4098 0 5 3 1 0 0 0 0 7 7 7 7 7 7 7 7 7 7
 3 1 8 1 4098 0 5 3 1 0 0 0 0 7 7 7 7 7 7 7 7 7 7
+0 2 0 1 4098 0 5 3 1 0 0 0 0 1 4098 0 5 3 1 1 0 0 0
 0 1 0 1 66 0 5 3 1 0 0 0 0 7 7 7 7 7 7 7 7 7 7
 3 1 8 1 66 0 5 3 1 0 0 0 0 7 7 7 7 7 7 7 7 7 7
 0 2 01 00 00 80 03 28 80 10 07 07 07 07
 12 1 07 07 07 07 07 07 07 07 07 07 07 07
 0 4 00 80 42 60 03 00 05 28 07 07 07 07
 12 1 07 07 07 07 07 07 07 07 07 07 07 07
+12 0 07 07 07 07 07 07 07 07 07 07 07 07
+0 4 00 80 42 60 03 08 05 28 07 07 07 07
 0 26 640 480
 0 13 640 2048
 4 13 0 0

@@ -3,8 +3,9 @@
 #[path = "common/text_header_files.rs"]
 mod text_header_files;
 
-use text_header_files::{compare_all, compare_longest, Reached};
+use text_header_files::{compare_all, compare_longest, often, Reached};
 use trials::samples::{evt2, evt3, Numbers, Picture};
+use trials::second::header::Header;
 use trials::second::words::Reading;
 use trials::{numbers, second};
 
@@ -46,40 +47,53 @@ impl Reached for Evt2 {
 }
 
 #[derive(Default)]
-struct Evt3;
+struct Evt3 {
+    /// Pixels by camera.
+    cameras: [usize; 2],
+}
 
 impl Reached for Evt3 {
     const SIDE: u32 = 2_048;
 
-    const REFUSED: &'static [usize] = &[2, 3, 4, 5, 6, 7];
+    const REFUSED: &'static [usize] = &[2, 3, 4, 5, 6];
 
     fn second(bytes: &[u8], room: usize) -> Reading {
         second::raw::read_evt3(bytes, room)
     }
 
     fn data(picture: Picture, most_events: u32, numbers: &mut Numbers) -> Vec<u8> {
-        use evt3::Scene::{Dense, Mixed, Pixels, Sparse};
-        let scene = numbers.one_of(&[Pixels, Dense, Sparse, Mixed, Mixed]);
+        use evt3::Scene::{Dense, Mixed, Pixels, Sparse, TwoCameras};
+        let scene = numbers.one_of(&[Pixels, Dense, Sparse, Mixed, TwoCameras]);
         evt3::recording(scene, picture, evt3::a_start(numbers), 1 + numbers.below(most_events) as usize, numbers)
     }
 
     fn faults() -> Vec<Vec<u8>> {
         const PIXEL: [u16; 4] = [0x8000, 0x6040, 0x0003, 0x2805];
         let a_wrap_too_many = [evt3::ALL_WRAPS, &[0x8fff, 0x8000]].concat();
-        // room alone; 3; 7; 5 by a wrap and by a smaller drop; 6 by x, by y and by a vector; a vector that may lack room; 3 after another time
-        let words: [&[u16]; 10] = [
+        // room alone; 3; 5 by a wrap and by a smaller drop; 6 by x, by y, by the slave's x and y, by a vector; a vector that may lack room; 3 after
+        // another time
+        let words: [&[u16]; 11] = [
             &[0x2006, 0xa001],
             &[0x9000],
-            &[0x0803],
             &a_wrap_too_many,
             &[0x8800, 0x8001],
             &[0x2040],
             &[0x0030, 0x2005],
+            &[0x0803, 0x2005, 0x2040],
+            &[0x0830, 0x2005],
             &[0x3038, 0x4fff],
             &[0x3000, 0x5003],
             &[0x6041, 0x1000],
         ];
         with_parts(words.map(|words| evt3::bytes_of(&[&PIXEL, words].concat())))
+    }
+
+    fn count(&mut self, _: &Header, _: &[u8], reading: &Reading) {
+        reading.rows.iter().filter(|row| row[0] == 1).for_each(|row| self.cameras[row[6] as usize] += 1);
+    }
+
+    fn check(&self) {
+        self.cameras.iter().enumerate().for_each(|(camera, &count)| often("pixels of camera", camera, count));
     }
 }
 

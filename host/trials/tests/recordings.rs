@@ -8,7 +8,7 @@ use formats::{Format, AEDAT, DAT, EVT2, EVT3, RAW_EVT2, RAW_EVT3};
 use fryskelom::{read_evt2, read_evt3, Fault};
 use std::path::{Path, PathBuf};
 use std::{env, fs};
-use trials::samples::{imu, pixel, row, trigger};
+use trials::samples::{imu, pixel, row, slave_pixel, trigger};
 use trials::second::rows::{time_of, Row, MOST_ROWS};
 use trials::second::words::{Reading, Writing, SIDE};
 use trials::{in_repository, numbers, second};
@@ -185,6 +185,43 @@ fn usb_packets() {
     ];
     for (name, fault, rows) in cases {
         let reading = read_kept(if name.ends_with(".raw") { &RAW_EVT2 } else { &EVT2 }, name);
+        assert_eq!(((reading.refusal, reading.place), &reading.rows[..]), (fault, rows), "{name}");
+    }
+}
+
+/// Bit 11 of an ADDR_Y is the camera of all pixels up to the next ADDR_Y. It is no part of the line, and changes nothing else.
+#[test]
+fn cameras() {
+    const TIME: u64 = 4_098;
+    let both = [pixel(TIME, 5, 3, 1), slave_pixel(TIME, 5, 3, 1)];
+    let alone = [slave_pixel(TIME, 5, 3, 1), slave_pixel(TIME, 16, 3, 1), slave_pixel(TIME, 17, 3, 1)];
+    let in_turn = [
+        pixel(TIME, 5, 3, 1),
+        slave_pixel(TIME, 6, 3, 1),
+        pixel(TIME, 7, 3, 1),
+        // neither a time nor a trigger tells a camera, and of three ADDR_Y the last one counts
+        pixel(TIME + 1, 8, 3, 1),
+        trigger(TIME + 1, 1, 0),
+        slave_pixel(TIME + 1, 9, 4, 1),
+    ];
+    let cases: [(&str, (u64, usize), &[Row]); 7] = [
+        ("slave-camera.evt3", (0, 0), &both),
+        ("slave-camera-alone.evt3", (0, 0), &alone),
+        // a pixel before the clock gives no row, but its camera stays known
+        ("slave-camera-before-the-clock.evt3", (0, 0), &alone[..1]),
+        ("slave-camera-at-the-last-pixel.evt3", (0, 0), &[slave_pixel(TIME, 2_047, 2_047, 1)]),
+        ("cameras-in-turn.evt3", (0, 0), &in_turn),
+        // the vector that follows an ADDR_Y goes on where the last one ended
+        (
+            "base-goes-on-at-another-camera.evt3",
+            (0, 0),
+            &[pixel(TIME, 10, 3, 0), pixel(TIME, 21, 3, 0), slave_pixel(TIME, 22, 3, 0), slave_pixel(TIME, 23, 3, 0)],
+        ),
+        // the last line of a picture of 48, and then the one past it
+        ("slave-camera-past-the-height.raw", (6, 37), &[pixel(TIME, 5, 3, 1), slave_pixel(TIME, 5, 47, 1)]),
+    ];
+    for (name, fault, rows) in cases {
+        let reading = read_kept(if name.ends_with(".raw") { &RAW_EVT3 } else { &EVT3 }, name);
         assert_eq!(((reading.refusal, reading.place), &reading.rows[..]), (fault, rows), "{name}");
     }
 }

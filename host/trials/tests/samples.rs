@@ -20,9 +20,10 @@ struct Sample {
     fault: Option<(u64, usize)>,
 }
 
-const SAMPLES: [Sample; 10] = [
+const SAMPLES: [Sample; 11] = [
     Sample { name: "gate-relay-evt3.raw", format: RAW_EVT3, rows: [4_245, 1, 0, 0, 0], times: Some((0, 89_604)), fault: None },
     Sample { name: "brake-relay-evt2.raw", format: RAW_EVT2, rows: [3_268, 1, 0, 0, 0], times: Some((0, 109_441)), fault: None },
+    Sample { name: "two-cameras-evt3.raw", format: RAW_EVT3, rows: [7_499, 2, 0, 0, 0], times: Some((0, 109_918)), fault: None },
     Sample { name: "gate-relay.dat", format: DAT, rows: [4_245, 0, 0, 0, 0], times: Some((0, 89_604)), fault: None },
     Sample { name: "brake-relay.aedat", format: AEDAT, rows: [6_576, 2, 0, 18, 0], times: Some((0, 178_595)), fault: None },
     Sample { name: "clock-wrap.evt3", format: EVT3, rows: [4_225, 1, 0, 0, 0], times: Some((16_737_216, 16_817_039)), fault: None },
@@ -33,13 +34,18 @@ const SAMPLES: [Sample; 10] = [
     Sample { name: "comma-in-width.raw", format: RAW_EVT3, rows: [0; 5], times: None, fault: Some((9, 37)) },
 ];
 
+/// The only sample of two cameras, and how many of its pixels are of camera 1.
+const TWO_CAMERAS: (&str, usize) = ("two-cameras-evt3.raw", 4_231);
+
 /// The times of a coil's edge, its direction, and the first pixel of the armature that follows.
 type Switching = (u64, u32, u64);
 
 /// What a fitter reads off a sample.
-const SWITCHINGS: [(&str, &[Switching]); 5] = [
+const SWITCHINGS: [(&str, &[Switching]); 6] = [
     ("gate-relay-evt3.raw", &[(30_000, 1, 51_400)]),
     ("brake-relay-evt2.raw", &[(25_000, 0, 71_200)]),
+    // the gate relay, which is the slave's, moves before the brake relay, whose coil was switched first
+    ("two-cameras-evt3.raw", &[(25_000, 0, 71_200), (30_000, 1, 51_401)]),
     ("brake-relay.aedat", &[(15_000, 1, 48_701), (100_000, 0, 146_201)]),
     ("clock-wrap.evt3", &[(16_765_216, 1, 16_786_617)]),
     ("brake-relay-imu.evt2", &[(25_000, 0, 71_200)]),
@@ -75,18 +81,21 @@ fn every_file_is_read() {
         let kinds = KINDS.map(|kind| rows.iter().filter(|row| row[0] == kind).count());
         assert_eq!((kinds, times, fault), (sample.rows, sample.times, sample.fault), "{}", sample.name);
         assert_eq!(kinds.iter().sum::<usize>(), rows.len(), "{}: rows of other kinds", sample.name);
+        let of_slave = rows.iter().filter(|row| row[0] == 1 && row[6] == 1).count();
+        assert_eq!(of_slave, if sample.name == TWO_CAMERAS.0 { TWO_CAMERAS.1 } else { 0 }, "{}: pixels of camera 1", sample.name);
     }
 }
 
-/// Each edge of the coil's supply with the first later pixel that begins a burst: 20 more within 20 microseconds.
+/// Each edge of a coil's supply with the first later pixel that begins a burst: 20 more within 20 microseconds. The armature of the coil on
+/// channel 0 is before camera 0, that of the one on channel 1 before camera 1.
 fn switchings(rows: &[Row]) -> Vec<Switching> {
-    let pixels: Vec<u64> = rows.iter().filter(|row| row[0] == 1).map(time_of).collect();
-    let burst_after = |edge: u64| {
-        let later = &pixels[pixels.partition_point(|&time| time < edge)..];
+    let burst_after = |edge: u64, camera: u32| {
+        let pixels = rows.iter().filter(|row| row[0] == 1 && row[6] == camera).map(time_of);
+        let later: Vec<u64> = pixels.filter(|&time| time >= edge).collect();
         later.windows(21).find(|times| times[20] - times[0] <= 20).expect("a burst after the edge")[0]
     };
     let edges = rows.iter().filter(|row| row[0] == 2);
-    edges.map(|edge| (time_of(edge), edge[4], burst_after(time_of(edge)))).collect()
+    edges.map(|edge| (time_of(edge), edge[4], burst_after(time_of(edge), edge[3]))).collect()
 }
 
 #[test]

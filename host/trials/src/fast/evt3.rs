@@ -1,9 +1,7 @@
 //! The reader and the writer of EVT3 words.
-use super::{admit, fits, time_of, trigger, Never, Row, BAD_ROW, CUT, NO_ROOM, OUTSIDE, PIXEL, RESERVED, SIDE, TIME};
+use super::{admit, fits, pixel, time_of, trigger, Never, Row, BAD_ROW, CUT, NO_ROOM, OUTSIDE, RESERVED, SIDE, TIME};
 use fryskelom::{Fault, Refusal, RowFault};
 use std::slice::IterMut;
-
-const SLAVE: Refusal = Refusal(7);
 
 const MOST_WRAPS: u32 = 1_023;
 
@@ -17,7 +15,7 @@ pub fn read(bytes: &[u8], width: u32, height: u32, rows: &mut [u32]) -> Result<u
     let (rows, _) = rows.as_chunks_mut();
     let (words, half) = bytes.as_chunks();
     let room = rows.len();
-    let mut reader = Reader { width, height, rows: rows.iter_mut(), wraps: 0, high: None, time: None, y: None, base: None };
+    let mut reader = Reader { width, height, rows: rows.iter_mut(), wraps: 0, high: None, time: None, y: None, camera: 0, base: None };
     for (index, &word) in words.iter().enumerate() {
         if let Err(refusal) = reader.word(u16::from_le_bytes(word)) {
             return fault(refusal, room - reader.rows.len(), 2 * index);
@@ -40,6 +38,8 @@ struct Reader<'a> {
     /// The time as a row has it: the low 32 bits and the rest.
     time: Option<[u32; 2]>,
     y: Option<u32>,
+    /// The camera that was told with y.
+    camera: u32,
     /// The column and the polarity of the next vector's first pixel.
     base: Option<(u32, u32)>,
 }
@@ -50,7 +50,7 @@ impl Reader<'_> {
         let data = u32::from(word & 0xfff);
         let (top, address) = (data >> 11, data & 0x7ff);
         match word >> 12 {
-            0x0 => return self.addr_y(address, top),
+            0x0 => (self.y, self.camera) = (Some(address), top),
             0x2 => return self.pixel(address, top),
             0x3 => self.base = Some((address, top)),
             0x4 => return self.vector(data, 12),
@@ -61,15 +61,6 @@ impl Reader<'_> {
             0x7 | 0xe | 0xf => {}
             _ => return Err(RESERVED),
         }
-        Ok(())
-    }
-
-    #[inline(always)]
-    fn addr_y(&mut self, y: u32, slave: u32) -> Result<(), Refusal> {
-        if slave == 1 {
-            return Err(SLAVE);
-        }
-        self.y = Some(y);
         Ok(())
     }
 
@@ -98,7 +89,7 @@ impl Reader<'_> {
         if x >= self.width || y >= self.height {
             return Err(OUTSIDE);
         }
-        *self.rows.next().ok_or(NO_ROOM)? = [1, low, high, x, y, polarity, 0, 0, 0, 0];
+        *self.rows.next().ok_or(NO_ROOM)? = [1, low, high, x, y, polarity, self.camera, 0, 0, 0];
         Ok(())
     }
 
@@ -114,7 +105,7 @@ impl Reader<'_> {
                 return Err(NO_ROOM);
             }
             for row in self.rows.by_ref().take(pixels) {
-                *row = [1, low, high, x + bits.trailing_zeros(), y, polarity, 0, 0, 0, 0];
+                *row = [1, low, high, x + bits.trailing_zeros(), y, polarity, self.camera, 0, 0, 0];
                 bits &= bits - 1;
             }
         }
@@ -136,14 +127,19 @@ pub fn write(rows: &[u32], out: &mut [u8]) -> Result<usize, RowFault> {
 }
 
 /// What a writable row of kinds 1 and 2 is.
-const KINDS: [Never; 2] = [PIXEL, trigger(16)];
+const KINDS: [Never; 2] = [pixel(2), trigger(16)];
 
 /// The columns of a vector.
 const COLUMNS: u32 = 12;
 
-/// The time and the line before the first event.
+/// The time and the line before the first event. A line is what ADDR_Y says: y, and the camera above it.
 const NO_TIME: i64 = -1;
-const NO_LINE: u32 = SIDE;
+const NO_LINE: u32 = 2 * SIDE;
+
+#[inline(always)]
+fn line_of(row: &Row) -> u32 {
+    row[6] << 11 | row[4]
+}
 
 /// How many words a list takes.
 fn judge(rows: &[Row]) -> Result<usize, RowFault> {
@@ -155,7 +151,7 @@ fn judge(rows: &[Row]) -> Result<usize, RowFault> {
         if !fits(row, never) {
             return Err(fault(BAD_ROW));
         }
-        let &[kind, _, _, x, y, ..] = row;
+        let &[kind, _, _, x, ..] = row;
         if !joins(last, row) {
             let now = time_of(row) as i64;
             if now < time {
@@ -164,8 +160,8 @@ fn judge(rows: &[Row]) -> Result<usize, RowFault> {
             words += 1 + time_words(time, now);
             time = now;
             if kind == 1 {
-                words += usize::from(y != line);
-                line = y;
+                words += usize::from(line_of(row) != line);
+                line = line_of(row);
             }
             (base, vector) = (x, false);
         } else if x - base < COLUMNS {
@@ -185,8 +181,8 @@ fn judge(rows: &[Row]) -> Result<usize, RowFault> {
 /// Whether a row is in the group of the one before it.
 #[inline(always)]
 fn joins(last: &Row, row: &Row) -> bool {
-    let differs = last[0] ^ row[0] | last[1] ^ row[1] | last[2] ^ row[2] | last[4] ^ row[4] | last[5] ^ row[5];
-    differs == 0 && row[0] == 1 && row[3] > last[3]
+    // kind and time, then y, polarity and camera: the compiler compares each three at once
+    last[..3] == row[..3] && last[4..7] == row[4..7] && row[0] == 1 && row[3] > last[3]
 }
 
 /// How many words bring the clock from the last time to the next one.
@@ -245,9 +241,9 @@ fn spell(rows: &[Row], out: &mut [[u8; 2]]) {
             rest = next;
             continue;
         }
-        if b != line {
-            put(b);
-            line = b;
+        if line_of(row) != line {
+            line = line_of(row);
+            put(line);
         }
         rest = spell_columns(row, next, &mut put);
     }

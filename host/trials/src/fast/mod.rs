@@ -63,7 +63,10 @@ type Never = [u32; 8];
 const HIGH: u32 = !3;
 const NONE: u32 = !0;
 
-const PIXEL: Never = [HIGH, !(SIDE - 1), !(SIDE - 1), !1, NONE, NONE, NONE, NONE];
+/// A pixel in a format of so many cameras, 1 or 2.
+const fn pixel(cameras: u32) -> Never {
+    [HIGH, !(SIDE - 1), !(SIDE - 1), !1, !(cameras - 1), NONE, NONE, NONE]
+}
 
 /// A trigger in a format of so many channels, which are a power of two.
 const fn trigger(channels: u32) -> Never {

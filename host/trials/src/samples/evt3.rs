@@ -12,6 +12,8 @@ pub enum Scene {
     Sparse,
     /// All of these in turn, with triggers; in a recording words that carry no event, in a list long pauses.
     Mixed,
+    /// The same, seen by a master and a slave on one clock. In all other scenes the camera is 0.
+    TwoCameras,
 }
 
 /// Words whose high part falls 1,023 times, which is as often as it may.
@@ -38,7 +40,7 @@ pub fn list(scene: Scene, picture: Picture, start: u64, events: usize, numbers: 
     while rows.len() < events {
         let pause = match scene {
             // about one wrap on the average
-            Scene::Mixed if numbers.once_in(1_000) => u64::from(numbers.below(1 << 25)),
+            Scene::Mixed | Scene::TwoCameras if numbers.once_in(1_000) => u64::from(numbers.below(1 << 25)),
             _ => numbers.pause(),
         };
         time = LAST_TIME.min(time + pause);
@@ -58,6 +60,13 @@ fn see(scene: Scene, picture: Picture, time: u64, rows: &mut Vec<[u32; 10]>, num
             7..=11 => see(Scene::Sparse, picture, time, rows, numbers),
             _ => see(Scene::Pixels, picture, time, rows, numbers),
         },
+        Scene::TwoCameras => {
+            for _ in 0..=numbers.below(2) {
+                let (camera, first) = (numbers.below(2), rows.len());
+                see(Scene::Mixed, picture, time, rows, numbers);
+                rows[first..].iter_mut().filter(|row| row[0] == 1).for_each(|row| row[6] = camera);
+            }
+        }
     }
 }
 
@@ -89,17 +98,20 @@ pub fn bytes_of(words: &[u16]) -> Vec<u8> {
     words.iter().flat_map(|word| word.to_le_bytes()).collect()
 }
 
-/// A camera that sends only what has changed, and its time base again and again.
+/// A camera, or two that send as one. It sends only what has changed, and its time base again and again.
 struct Camera {
     words: Vec<u16>,
     time: u64,
-    y: Option<u32>,
+    /// Which of the two sees the next scene: 0 the master, 1 the slave.
+    camera: u32,
+    /// The data of the last ADDR_Y: the line, and the camera above it.
+    line: Option<u32>,
     events: usize,
 }
 
 impl Camera {
     fn new(time: u64) -> Camera {
-        let mut camera = Camera { words: vec![], time, y: None, events: 0 };
+        let mut camera = Camera { words: vec![], time, camera: 0, line: None, events: 0 };
         camera.time_high(time);
         camera.time_low(time);
         camera
@@ -131,6 +143,12 @@ impl Camera {
                 5..=12 => self.see(Scene::Sparse, picture, numbers),
                 _ => self.see(Scene::Pixels, picture, numbers),
             },
+            Scene::TwoCameras => {
+                for _ in 0..=numbers.below(2) {
+                    self.camera = numbers.below(2);
+                    self.see(Scene::Mixed, picture, numbers);
+                }
+            }
         }
     }
 
@@ -175,9 +193,10 @@ impl Camera {
     }
 
     fn addr_y(&mut self, y: u32) {
-        if self.y != Some(y) {
-            self.word(0x0, y);
-            self.y = Some(y);
+        let line = self.camera << 11 | y;
+        if self.line != Some(line) {
+            self.word(0x0, line);
+            self.line = Some(line);
         }
     }
 

@@ -19,9 +19,14 @@ pub const fn row(kind: u32, time: u64, [a, b, c, d, e, f, g]: [u32; 7]) -> [u32;
     [kind, time as u32, (time >> 32) as u32, a, b, c, d, e, f, g]
 }
 
-/// The row of a pixel.
+/// The row of a pixel of camera 0.
 pub const fn pixel(time: u64, x: u32, y: u32, polarity: u32) -> [u32; 10] {
     row(1, time, [x, y, polarity, 0, 0, 0, 0])
+}
+
+/// The row of a pixel of camera 1, a slave.
+pub const fn slave_pixel(time: u64, x: u32, y: u32, polarity: u32) -> [u32; 10] {
+    row(1, time, [x, y, polarity, 1, 0, 0, 0])
 }
 
 /// The row of a trigger.

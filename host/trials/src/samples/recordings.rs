@@ -8,9 +8,10 @@ use crate::second::rows::{time_of, Row};
 /// A file's name, and how its bytes are made.
 pub type Recording = (&'static str, fn() -> Vec<u8>);
 
-pub const RECORDINGS: [Recording; 10] = [
+pub const RECORDINGS: [Recording; 11] = [
     ("gate-relay-evt3.raw", || [EVT3_HEADER, &evt3_words(&gate_relay())].concat()),
     ("brake-relay-evt2.raw", || [EVT2_HEADER, &evt2_words(&brake_relay())].concat()),
+    ("two-cameras-evt3.raw", || [EVT3_HEADER, &evt3_words(&both_relays())].concat()),
     ("gate-relay.dat", gate_relay_dat),
     ("brake-relay.aedat", brake_relay_aedat),
     ("clock-wrap.evt3", clock_wrap),
@@ -63,6 +64,18 @@ fn gate_relay() -> Vec<Row> {
 
 fn brake_relay() -> Vec<Row> {
     rows(&[RELEASING], (0, 110_000), &mut numbers())
+}
+
+/// A master watches the brake relay, and a slave on its clock the gate relay, whose coil's supply is on the next trigger input.
+fn both_relays() -> Vec<Row> {
+    let mut by_slave = rows(&[CLOSING], (0, 110_000), &mut Numbers::new(0x58e1_907a_c33d_16b5));
+    for row in &mut by_slave {
+        // the camera of a pixel, the channel of a trigger
+        row[if row[0] == 1 { 6 } else { 3 }] = 1;
+    }
+    let mut rows = [brake_relay(), by_slave].concat();
+    rows.sort_by_key(time_of);
+    rows
 }
 
 /// A DAT file has pixels alone.

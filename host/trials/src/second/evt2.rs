@@ -112,7 +112,8 @@ pub fn write(numbers: &[u32], lent: usize) -> Writing {
 
 fn can_write(row: &Row) -> bool {
     match row[0] {
-        1 => row[3] < words::SIDE && row[4] < words::SIDE,
+        // a word has no place for the camera
+        1 => row[3] < words::SIDE && row[4] < words::SIDE && row[6] == 0,
         2 | 3 => true,
         _ => false,
     }

@@ -25,8 +25,15 @@ struct State {
     wraps: u64,
     high: Option<u64>,
     time: Option<u64>,
-    y: Option<u32>,
+    line: Option<Line>,
     base: Option<Base>,
+}
+
+/// A line of the picture, and the camera that sees it: 0 the master, 1 the slave.
+#[derive(Clone, Copy, PartialEq)]
+struct Line {
+    y: u32,
+    camera: u32,
 }
 
 /// The column and polarity of the next vector's first pixel.
@@ -95,11 +102,11 @@ pub fn read(bytes: &[u8], width: u32, height: u32, room: usize) -> Reading {
 /// The rows that a word gives.
 fn rows_of(state: &State, word: Word) -> Vec<Row> {
     let Some(time) = state.time else { return vec![] };
-    match (word.kind, state.y, state.base) {
-        (ADDR_X, Some(y), _) => vec![row(1, time, &[word.address(), y, word.bit(11)])],
-        (VECT_12 | VECT_8, Some(y), Some(base)) => {
+    match (word.kind, state.line, state.base) {
+        (ADDR_X, Some(Line { y, camera }), _) => vec![row(1, time, &[word.address(), y, word.bit(11), camera])],
+        (VECT_12 | VECT_8, Some(Line { y, camera }), Some(base)) => {
             let set = (0..word.columns()).filter(|&i| word.bit(i) == 1);
-            set.map(|i| row(1, time, &[base.x + i, y, base.polarity])).collect()
+            set.map(|i| row(1, time, &[base.x + i, y, base.polarity, camera])).collect()
         }
         (TRIGGER, _, _) => vec![row(2, time, &[word.data / 256, word.bit(0)])],
         _ => vec![],
@@ -111,7 +118,7 @@ fn state_after(state: &State, word: Word) -> State {
     let mut next = *state;
     let data = u64::from(word.data);
     match word.kind {
-        ADDR_Y => next.y = Some(word.address()),
+        ADDR_Y => next.line = Some(Line { y: word.address(), camera: word.bit(11) }),
         BASE_X => next.base = Some(Base { x: word.address(), polarity: word.bit(11) }),
         // the base stops one past the last column
         VECT_12 | VECT_8 => next.base = state.base.map(|base| Base { x: (base.x + word.columns()).min(SIDE), ..base }),
@@ -148,8 +155,6 @@ fn bad_time(state: &State, word: Word, next: &State) -> bool {
 fn refusal_of(word: Word, bad_time: bool, rows: &[Row], width: u32, height: u32, room: usize) -> u64 {
     if RESERVED.contains(&word.kind) {
         3
-    } else if word.kind == ADDR_Y && word.bit(11) == 1 {
-        7
     } else if bad_time {
         5
     } else if rows.iter().any(|row| row[0] == 1 && (row[3] >= width || row[4] >= height)) {
@@ -179,7 +184,8 @@ fn can_write(row: &Row) -> bool {
 pub fn groups(rows: &[Row]) -> Vec<&[Row]> {
     let same_group = |last: &Row, next: &Row| {
         let pixels = last[0] == 1 && next[0] == 1;
-        let equal = time_of(last) == time_of(next) && last[4] == next[4] && last[5] == next[5];
+        // time, y, polarity and camera
+        let equal = time_of(last) == time_of(next) && last[4..=6] == next[4..=6];
         pixels && equal && last[3] < next[3]
     };
     rows.chunk_by(same_group).collect()
@@ -187,9 +193,9 @@ pub fn groups(rows: &[Row]) -> Vec<&[Row]> {
 
 /// A list's words, of which each event has only what differs from those before it.
 fn spelling(rows: &[Row]) -> Vec<Word> {
-    let (mut words, mut last_time, mut last_y) = (vec![], None, None);
+    let (mut words, mut last_time, mut last_line) = (vec![], None, None);
     for group in groups(rows) {
-        let [kind, _, _, a, b, ..] = group[0];
+        let [kind, _, _, a, b, _, camera, ..] = group[0];
         let time = time_of(&group[0]);
         if last_time != Some(time) {
             words.extend(time_words(last_time, time));
@@ -199,9 +205,10 @@ fn spelling(rows: &[Row]) -> Vec<Word> {
             words.push(Word { kind: TRIGGER, data: 256 * a + b });
             continue;
         }
-        if last_y != Some(b) {
-            words.push(Word { kind: ADDR_Y, data: b });
-            last_y = Some(b);
+        let line = Line { y: b, camera };
+        if last_line != Some(line) {
+            words.push(Word { kind: ADDR_Y, data: 2_048 * line.camera + line.y });
+            last_line = Some(line);
         }
         words.extend(column_words(group));
     }

@@ -15,8 +15,8 @@ pub fn limits(kind: u32) -> Option<[u64; 7]> {
     const ANY: u64 = 1 << 32;
     const NONE: u64 = 1;
     match kind {
-        // a pixel: x, y, polarity
-        1 => Some([32_768, 32_768, 2, NONE, NONE, NONE, NONE]),
+        // a pixel: x, y, polarity, camera
+        1 => Some([32_768, 32_768, 2, 2, NONE, NONE, NONE]),
         // a trigger: channel, edge
         2 => Some([32, 2, NONE, NONE, NONE, NONE, NONE]),
         // six counts of an IMU

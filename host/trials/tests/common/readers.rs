@@ -8,10 +8,10 @@ mod lent;
 mod often;
 
 pub use answer::answer;
-use fryskelom::REFUSALS;
 pub use often::often;
 use trials::samples::{Numbers, Picture};
 use trials::second::words::{Reading, MOST_BYTES};
+use trials::LAST_REFUSAL;
 
 /// The refusal, the finished rows and the place.
 pub type Answer = (u64, u64, u64);
@@ -46,13 +46,13 @@ pub struct Comparer<R> {
     inputs: usize,
     finished: usize,
     /// Refusals by number and by the type of the word at fault.
-    refused: [[usize; 16]; REFUSALS + 1],
+    refused: [[usize; 16]; LAST_REFUSAL + 1],
     reached: R,
 }
 
 impl<R: Reached> Comparer<R> {
     fn new(reader: Reader) -> Comparer<R> {
-        Comparer { reader, inputs: 0, finished: 0, refused: [[0; 16]; REFUSALS + 1], reached: R::default() }
+        Comparer { reader, inputs: 0, finished: 0, refused: [[0; 16]; LAST_REFUSAL + 1], reached: R::default() }
     }
 
     /// Compares with room for every row: for just that many, or for a little more.
@@ -88,8 +88,9 @@ impl<R: Reached> Comparer<R> {
         self.refused[refusal].iter().sum()
     }
 
-    /// Every refusal but 1, from every type of word that can meet it, and what the format asks for was reached often.
+    /// Every refusal but 1, from every type of word that can meet it, and what the format asks for was reached often. 7 is given no more.
     fn check(&self) {
+        assert_eq!(self.refused(7), 0, "refusal 7");
         for (refusal, kinds) in R::REFUSED {
             for &kind in *kinds {
                 often(&format!("refusal {refusal} of type"), kind, self.refused[*refusal][kind]);

@@ -6,13 +6,13 @@ mod headers;
 
 pub use files::often;
 use files::Reader;
-use fryskelom::REFUSALS;
 use headers::{pairs, short_headers};
 use trials::samples::header::header;
 use trials::samples::{Numbers, Picture};
 use trials::second;
 use trials::second::header::Header;
 use trials::second::words::Reading;
+use trials::LAST_REFUSAL;
 
 /// A format of data after a text header, and what its inputs have reached.
 pub trait Reached: Default {
@@ -44,9 +44,9 @@ pub trait Reached: Default {
 pub struct Headed<R> {
     finished: usize,
     /// Refusals of the header by number.
-    in_header: [usize; REFUSALS + 1],
+    in_header: [usize; LAST_REFUSAL + 1],
     /// Refusals after it by number.
-    after_header: [usize; REFUSALS + 1],
+    after_header: [usize; LAST_REFUSAL + 1],
     reached: R,
 }
 

@@ -5,11 +5,12 @@ mod lent;
 #[path = "lists.rs"]
 mod lists;
 
-use fryskelom::{Fault, RowFault, REFUSALS};
+use fryskelom::{Fault, RowFault};
 use std::collections::BTreeSet;
 use trials::samples::Numbers;
 use trials::second::rows::{time_of, Row, MOST_ROWS};
 use trials::second::words::Writing;
+use trials::LAST_REFUSAL;
 
 /// The refusal, and the number of words or the index of a row.
 pub type Answer = (u64, u64);
@@ -69,7 +70,7 @@ pub struct Comparer<R> {
     /// Rows of a time that takes more than 32 bits.
     late: usize,
     /// Rows that go back (5) and rows at fault (12), by the index 0, 1, 2 or a later one.
-    refused: [[usize; 4]; REFUSALS + 1],
+    refused: [[usize; 4]; LAST_REFUSAL + 1],
     /// Rows at fault by kind, 7 standing for all others, and by the first number that breaks a rule of this kind.
     broken: [[usize; 10]; 8],
     /// Rows at fault that also go back.
@@ -90,7 +91,7 @@ impl<R: Reached> Comparer<R> {
             inputs: 0,
             written: 0,
             late: 0,
-            refused: [[0; 4]; REFUSALS + 1],
+            refused: [[0; 4]; LAST_REFUSAL + 1],
             broken: [[0; 10]; 8],
             both: 0,
             short: [0; 9],

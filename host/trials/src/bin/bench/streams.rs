@@ -24,11 +24,12 @@ const fn growing(name: &'static str, measure: fn(usize, usize) -> Measured) -> S
     Stream { name, measure, grows: true }
 }
 
-pub const STREAMS: [Stream; 18] = [
+pub const STREAMS: [Stream; 19] = [
     stream("EVT3, single pixels", |events, rounds| reading_evt3(evt3::Scene::Pixels, events, rounds)),
     stream("EVT3, dense vectors", |events, rounds| reading_evt3(evt3::Scene::Dense, events, rounds)),
     stream("EVT3, sparse vectors", |events, rounds| reading_evt3(evt3::Scene::Sparse, events, rounds)),
     growing("EVT3, mixed", |events, rounds| reading_evt3(evt3::Scene::Mixed, events, rounds)),
+    stream("EVT3, two cameras", |events, rounds| reading_evt3(evt3::Scene::TwoCameras, events, rounds)),
     growing("RAW of EVT3, mixed", reading_raw_evt3),
     stream("EVT2, single pixels", |events, rounds| reading_evt2(evt2::Scene::Pixels, events, rounds)),
     growing("EVT2, mixed with IMU", |events, rounds| reading_evt2(evt2::Scene::Mixed, events, rounds)),

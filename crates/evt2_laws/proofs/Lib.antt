@@ -5,3 +5,4 @@ pub mod Kept
 pub mod Places
 pub mod ReadBack
 pub mod SpelledSteps
+pub mod WritableRows

@@ -4,8 +4,9 @@ use Prim.Native.Nat.{_-_}
 use native.Mathlib.Omega.{arith}
 use lib.ListN.{length, drop, length-append, length-drop}
 use lib.Seq.{take-append-seam, drop-append-seam}
+use Rattle.rows.specs.declared.fault.Fault.the-variants.{TooLong, NoRoom, Reserved, Cut, BadTime, Outside, Stray, BadHeader, BadPacket, ClockReset, BadRow, BadList, BadPicture}
 use Rattle.rows.specs.Runs.{Ending, finished, refused, resume, andThen}
-use Rattle.rows.specs.Promises.{RowsOfFlat, FlatOfRows, OverKept, KindsNamed, FiveRefused, CameraRefused, GoodTimely, MadeGood, GoodIsMade, VerdictWritable, AndThenGrouped}
+use Rattle.rows.specs.Promises.{RowsOfFlat, FlatOfRows, OverKept, SevenUnused, KindsNamed, FiveRefused, CameraRefused, GoodTimely, MadeGood, GoodIsMade, VerdictWritable, AndThenGrouped}
 use Rattle.rows.proofs.GoodRows.{kind-named, named-kind, five-bad, camera-bad, timed-time, camera-good, trigger-good, counts-good, singles-good, special-good}
 use Rattle.rows.proofs.GoodRows as rules
 use Rattle.rows.proofs.Judged.{accepted-writable, writable-accepted}
@@ -26,6 +27,21 @@ over-kept =
       rest = λ new old. drop-append-seam new (drop (length new) old);
       long = λ new old h. omega (arith, length-append new (drop (length new) old), length-drop (length new) old);
     }
+
+pub seven-unused : SevenUnused
+seven-unused TooLong e = omega arith
+seven-unused NoRoom e = omega arith
+seven-unused Reserved e = omega arith
+seven-unused Cut e = omega arith
+seven-unused BadTime e = omega arith
+seven-unused Outside e = omega arith
+seven-unused Stray e = omega arith
+seven-unused BadHeader e = omega arith
+seven-unused BadPacket e = omega arith
+seven-unused ClockReset e = omega arith
+seven-unused BadRow e = omega arith
+seven-unused BadList e = omega arith
+seven-unused BadPicture e = omega arith
 
 pub kinds-named : KindsNamed
 kinds-named n k = (kind-named n k, named-kind n k)

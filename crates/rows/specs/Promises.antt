@@ -6,9 +6,11 @@ use mathlib.Core.Logic.{_⊎_}
 use mathlib.Core.List.{List}
 use lib.ListN.{length, take, drop}
 use lib.Dec.{T}
+use Rattle.rows.specs.declared.fault.Fault.{Fault}
 use Rattle.rows.specs.declared.row.Row.{Row}
 use Rattle.rows.specs.declared.rules.Kind.{Kind}
 use Rattle.rows.specs.declared.rules.Kind.the-variants.{Pixel, Trigger, ImuCounts, ImuSingles, Special, Other}
+use Rattle.rows.specs.Fault.{numberOf}
 use Rattle.rows.specs.Row.{flat, over, timeOf, rowsOf, timed, cameraRow, pixelRow, triggerRow, countsRow, singlesRow, specialRow}
 use Rattle.rows.specs.Rules.{kindOf, goodRow, accepted, verdictFrom, Writable}
 use Rattle.rows.specs.Runs.{Run, andThen}
@@ -25,6 +27,10 @@ pub record OverKept : Type 0 where
   pub front : (new old : List ℕ) → take (length new) (over new old) ≡ new
   pub rest : (new old : List ℕ) → drop (length new) (over new old) ≡ drop (length new) old
   pub long : (new old : List ℕ) → length new ≤ length old → length (over new old) ≡ length old
+
+-- 02, R-9: 7 is no refusal's number
+abbrev pub SevenUnused : Type 0
+SevenUnused = (f : Fault) → (numberOf f ≡ 7) → ⊥
 
 -- 01, "Rows": each kind has one number
 abbrev pub Names : ℕ → Kind → Type 0

@@ -98,7 +98,7 @@ EachHolds (c ∷ cs) = (seenOf (c .input) ≡ c .seen) × EachHolds cs
 
 -- the state of an EVT3 reader after 8001 6002 0003
 abbrev pub timeAndY : State
-timeAndY = withY (withTime (withHigh fresh 1 0) 4098) 3
+timeAndY = withY (withTime (withHigh fresh 1 0) 4098) 3 0
 
 -- the five CONTINUED of an IMU reading that is 0 but along X, and its other readings (a temperature of +0 stands for none)
 abbrev pub still : List ℕ

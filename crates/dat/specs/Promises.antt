@@ -2,13 +2,18 @@
 use Prim.Native.Nat.{ℕ}
 use mathlib.Core.List.{List}
 use lib.ListN.{length}
-use Rattle.rows.specs.Rules.{AllGood}
+use Rattle.rows.specs.Row.{All}
+use Rattle.rows.specs.Rules.{AllGood, plainRow}
 use Rattle.rows.specs.Runs.{EndsWithin}
 use Rattle.dat.specs.Reader.{readingOf}
 
 -- 01, demand 2 and "Rows": every row that the reader gives is a good row by the row rules
 abbrev pub ReadGood : Type 0
 ReadGood = (bytes : List ℕ) (room : ℕ) → AllGood (readingOf bytes room .rows)
+
+-- 02, R-9: and its pixels are of camera 0
+abbrev pub ReadPlain : Type 0
+ReadPlain = (bytes : List ℕ) (room : ℕ) → All plainRow (readingOf bytes room .rows)
 
 -- 01, "Refusal numbers": a refusal's place lies in the file, or at its end
 abbrev pub ReadWithin : Type 0

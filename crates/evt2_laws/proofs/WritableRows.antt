@@ -8,12 +8,11 @@ use borrow.Author.Tests.{ltb-true, eqb-true}
 use Rattle.rows.specs.declared.row.Row.{Row}
 use Rattle.rows.specs.declared.rules.Kind.{Kind}
 use Rattle.rows.specs.declared.rules.Kind.the-variants.{Pixel}
-use Rattle.rows.specs.Row.{timeOf}
-use Rattle.rows.specs.Rules.{kindOf, Writable}
-use Rattle.rows.proofs.GoodRows.{and-first, and-second}
+use Rattle.rows.specs.Row.{timeOf, All}
+use Rattle.rows.specs.Rules.{kindOf, plainRow, Writable}
+use Rattle.rows.proofs.GoodRows.{and-first, and-second, plain-if}
 use Rattle.rows.proofs.Kept.{kinds-named}
 use Rattle.evt2.specs.Spelling.{writable, writableAs}
-use Rattle.evt2_laws.specs.Promises.{OneCamera}
 
 module _ (r : Row) (can : writable r ≡ true) where
   pub can-as : (k : Kind) → kindOf (r .kind) ≡ k → writableAs k r ≡ true
@@ -30,7 +29,7 @@ module _ (r : Row) (can : writable r ≡ true) where
         eqb-true _ _ (and-second sides _ all),
       )
 
--- so the pixels of a writable list are of camera 0
-pub of-one : (last : ℕ) (rs : List Row) → Writable writable last rs → OneCamera rs
-of-one last [] w = tt
-of-one last (r ∷ rs) w = (λ k. pixel-within r (w .1) k .2, of-one (timeOf r) rs (w .3))
+-- and the rows of a writable list are plain
+pub writable-plain : (last : ℕ) (rs : List Row) → Writable writable last rs → All plainRow rs
+writable-plain last [] w = tt
+writable-plain last (r ∷ rs) w = (plain-if r (w .0) (λ k. pixel-within r (w .1) k .2), writable-plain (timeOf r) rs (w .3))

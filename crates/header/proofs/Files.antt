@@ -1,12 +1,14 @@
 -- Files that begin with a header: what a reader of them promises, and what holds of all that it gives.
 use mathlib.Core.Path.{_≡_, sym, _∙_, subst}
 use Prim.Native.Nat.{ℕ, _≤_, _<_}
+use mathlib.Core.Bool.{Bool}
 use mathlib.Core.List.{List}
 use lib.ListN.{length}
 use Rattle.rows.specs.declared.fault.Fault.{Fault}
 use Rattle.rows.specs.declared.fault.Reading.{Reading}
 use Rattle.rows.specs.declared.fault.Reading.the-variants as reading
-use Rattle.rows.specs.Rules.{AllGood}
+use Rattle.rows.specs.declared.row.Row.{Row}
+use Rattle.rows.specs.Row.{All}
 use Rattle.rows.specs.Runs.{Run, ReadAs, EndsWithin}
 use Rattle.rows.proofs.Sofar.{reads-refused}
 use Rattle.header.specs.declared.reader.Header.{Header}
@@ -30,10 +32,10 @@ pub data-within : (limit : ℕ) → 0 < limit → (bytes : List ℕ) {r : Header
 data-within limit some bytes e f = subst (Within limit (length bytes)) (sym e ∙ f) (header-within limit some bytes) .0
 
 module _ {S : Type 0} (rest : ℕ → ℕ → ℕ → Run S) where
-  -- all rows are good where those after the header are
-  pub after-good : (h : Header) → ((at width height : ℕ) → AllGood (rest at width height .rows)) → AllGood (afterHeader h rest .rows)
-  after-good (Data at width height) g = g at width height
-  after-good (Refused f place) g = tt
+  -- all rows pass a test where those after the header do
+  pub after-passes : (test : Row → Bool) (h : Header) → ((at width height : ℕ) → All test (rest at width height .rows)) → All test (afterHeader h rest .rows)
+  after-passes test (Data at width height) g = g at width height
+  after-passes test (Refused f place) g = tt
 
   -- a refusal lies in the file where those after the header do
   pub after-within : (limit bytes : ℕ) (h : Header) → Within limit bytes h

@@ -3,15 +3,15 @@ use mathlib.Core.Path.{_≡_, refl, subst}
 use mathlib.Core.Logic.{inl, inr, ⊎-elim}
 use Prim.Native.Nat.{ℕ, zero, suc, _<_}
 use native.Mathlib.Omega.{arith}
-use mathlib.Core.Bool.{Bool, true, false, _&&_}
+use mathlib.Core.Bool.{Bool, true, false, cond, _&&_}
 use mathlib.Core.List.{List, [], _∷_, _++_}
 use lib.Dec.{ltb, eqb, lit<}
-use borrow.Author.Tests.{lt-ltb, le-ltb, ltb-true, ne-eqb}
+use borrow.Author.Tests.{lt-ltb, le-ltb, ltb-true, eq-eqb, ne-eqb, eqb-true}
 use Rattle.rows.specs.declared.row.Row.{Row}
 use Rattle.rows.specs.declared.rules.Kind.{Kind}
 use Rattle.rows.specs.declared.rules.Kind.the-variants.{Pixel, Trigger, ImuCounts, ImuSingles, Special, Other}
-use Rattle.rows.specs.Row.{timeOf, timed, cameraRow, pixelRow, triggerRow, countsRow, singlesRow, specialRow}
-use Rattle.rows.specs.Rules.{below, unused, timely, goodPair, kindOf, goodAs, goodRow, AllGood}
+use Rattle.rows.specs.Row.{timeOf, All, timed, cameraRow, pixelRow, triggerRow, countsRow, singlesRow, specialRow}
+use Rattle.rows.specs.Rules.{below, unused, timely, goodPair, kindOf, goodAs, goodRow, AllGood, plainRow}
 use Rattle.rows.specs.Promises.{Names}
 use Rattle.rows.proofs.Chosen.{never}
 
@@ -116,9 +116,24 @@ good-timely r e = ltb-true _ _ (go (kindOf (r .kind)) e)
     go Special g = pair 128 16777216 g
     go Other g = never g
 
-pub all-good-append : (a b : List Row) → AllGood a → AllGood b → AllGood (a ++ b)
-all-good-append [] b h g = g
-all-good-append (r ∷ a) b h g = (h .0, all-good-append a b (h .1) g)
+pub all-append : (test : Row → Bool) (a b : List Row) → All test a → All test b → All test (a ++ b)
+all-append test [] b h g = g
+all-append test (r ∷ a) b h g = (h .0, all-append test a b (h .1) g)
+
+-- a good row is plain where it is no pixel, or one of camera 0
+pub plain-if : (r : Row) → goodRow r ≡ true → (r .kind ≡ 1 → r .d ≡ 0) → plainRow r ≡ true
+unfolding plainRow
+plain-if r good none = rw good (go (eqb (r .kind) 1) refl)
+  where
+    go : (t : Bool) → eqb (r .kind) 1 ≡ t → cond t (eqb (r .d) 0) true ≡ true
+    go true e = eq-eqb (r .d) 0 (none (eqb-true (r .kind) 1 e))
+    go false e = refl
+
+-- rows that are plain are good
+pub plain-good : (rs : List Row) → All plainRow rs → AllGood rs
+unfolding plainRow
+plain-good [] h = tt
+plain-good (r ∷ rs) h = (and-first (goodRow r) _ (h .0), plain-good rs (h .1))
 
 -- a row made at a time has that time
 pub timed-time : (kind time a b c d e f g : ℕ) → timeOf (timed kind time a b c d e f g) ≡ time
@@ -154,3 +169,25 @@ module _ (time : ℕ) (h : time < 17179869184) where
   pub special-good : (code content : ℕ) → code < 128 → content < 16777216 → goodRow (specialRow time code content) ≡ true
   unfolding goodRow goodAs kindOf timed
   special-good code content hc hn = simp (timed-timely 6 code content 0 0 0 0 0, lt-ltb _ _ hc, lt-ltb _ _ hn)
+
+  -- and plain but for pixels of camera 1
+  plain-timed : (kind a b c d e f g : ℕ) → goodRow (timed kind time a b c d e f g) ≡ true → cond (eqb kind 1) (eqb d 0) true ≡ true
+      → plainRow (timed kind time a b c d e f g) ≡ true
+  unfolding plainRow timed
+  plain-timed kind a b c d e f g h k = rw (h, k)
+
+  pub pixel-plain : (x y polarity : ℕ) → x < 32768 → y < 32768 → polarity < 2 → plainRow (pixelRow time x y polarity) ≡ true
+  pixel-plain x y p hx hy hp = plain-timed 1 x y p 0 0 0 0 (pixel-good x y p hx hy hp) refl
+
+  pub trigger-plain : (channel edge : ℕ) → channel < 32 → edge < 2 → plainRow (triggerRow time channel edge) ≡ true
+  trigger-plain channel edge hc he = plain-timed 2 channel edge 0 0 0 0 0 (trigger-good channel edge hc he) refl
+
+  pub counts-plain : (ax ay az rx ry rz : ℕ) → ax < 65536 → ay < 65536 → az < 65536 → rx < 65536 → ry < 65536 → rz < 65536
+      → plainRow (countsRow time ax ay az rx ry rz) ≡ true
+  counts-plain ax ay az rx ry rz h₁ h₂ h₃ h₄ h₅ h₆ = plain-timed 3 ax ay az rx ry rz 0 (counts-good ax ay az rx ry rz h₁ h₂ h₃ h₄ h₅ h₆) refl
+
+  pub singles-plain : (ax ay az rx ry rz temperature : ℕ) → plainRow (singlesRow time ax ay az rx ry rz temperature) ≡ true
+  singles-plain ax ay az rx ry rz k = plain-timed 4 ax ay az rx ry rz k (singles-good ax ay az rx ry rz k) refl
+
+  pub special-plain : (code content : ℕ) → code < 128 → content < 16777216 → plainRow (specialRow time code content) ≡ true
+  special-plain code content hc hn = plain-timed 6 code content 0 0 0 0 0 (special-good code content hc hn) refl

@@ -1,7 +1,7 @@
 -- Rows: ten numbers each, one after the other in a list of numbers. 01, "Rows".
 use mathlib.Core.Path.{_≡_}
 use Prim.Native.Nat.{ℕ, zero, suc, _+_, _*_, _/_, _%_, _<_}
-use mathlib.Core.Bool.{Bool, cond}
+use mathlib.Core.Bool.{Bool, true, cond}
 use mathlib.Core.List.{List, [], _∷_, _++_}
 use lib.ListN.{length, drop, getD}
 use lib.Seq.{sets}
@@ -63,6 +63,11 @@ rowsOf l = rowsFrom l 0 (roomOf l)
 abbrev pub only : (Row → Bool) → List Row → List Row
 only test [] = []
 only test (r ∷ rs) = cond (test r) (r ∷ only test rs) (only test rs)
+
+-- every row of a list passes a test
+abbrev pub All : (Row → Bool) → List Row → Type 0
+All test [] = Unit {0}
+All test (r ∷ rs) = (test r ≡ true) × All test rs
 
 -- numbers of 32 bits, as every slice of them holds
 abbrev pub Narrow : List ℕ → Type 0

@@ -12,7 +12,7 @@ use Rattle.rows.specs.declared.rules.Kind.{Kind}
 use Rattle.rows.specs.declared.rules.Kind.the-variants.{Pixel, Trigger, ImuCounts, ImuSingles, Special, Other}
 use Rattle.rows.specs.declared.rules.Judged.{Judged}
 use Rattle.rows.specs.declared.rules.Judged.the-variants.{Time, Refused}
-use Rattle.rows.specs.Row.{timeOf, rowsOf}
+use Rattle.rows.specs.Row.{timeOf, rowsOf, All}
 
 -- the kinds 1 to 4 and 6. 02, R-11: 5 was the USB packet; the number is not given to another kind
 unfoldable pub kindOf : ℕ → Kind
@@ -62,8 +62,11 @@ goodRow r = goodAs (kindOf (r .kind)) r
 
 -- rows that are all good
 abbrev pub AllGood : List Row → Type 0
-AllGood [] = Unit {0}
-AllGood (r ∷ rs) = (goodRow r ≡ true) × AllGood rs
+AllGood rs = All goodRow rs
+
+-- 02, R-9: a row as the formats other than EVT3 have them: good, and of camera 0 if it is a pixel
+unfoldable pub plainRow : Row → Bool
+plainRow r = goodRow r && cond (eqb (r .kind) 1) (eqb (r .d) 0) true
 
 -- one row of a list to be written, after a last time: 12 where it is bad or unwritable, then 5 where its time goes back
 abbrev pub judgedBy : Bool → Bool → Row → ℕ → Judged

@@ -11,7 +11,7 @@ use Rattle.rows.specs.declared.row.Row.{Row}
 use Rattle.rows.specs.Row.{only}
 use Rattle.rows.specs.Rules.{goodRow}
 use Rattle.rows.proofs.Chosen.{never}
-use Rattle.rows.proofs.GoodRows.{and-first, and-second}
+use Rattle.rows.proofs.GoodRows.{and-first, and-second, plain-good}
 use Rattle.rows.proofs.Kept.{five-refused}
 use Rattle.rows.proofs.Only.{only-good}
 use Rattle.words.specs.declared.picture.Picture.{Picture}
@@ -97,7 +97,7 @@ module _ (p : Picture) (s : Before) (place w : ℕ) (h : Fine s) where
           let kept = machine-keeps p .step (s .today) place w t new (h .limits) e in
           record {
             state = t;
-            step = e ∙ ap (next t) (sym (only-good notFive good-kept new (kept .1)));
+            step = e ∙ ap (next t) (sym (only-good notFive good-kept new (plain-good new (kept .1))));
             holds = record { today = refl; fine = record { outside = λ k. never (sym is ∙ k); limits = kept .0 } };
           }
 

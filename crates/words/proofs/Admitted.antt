@@ -2,11 +2,13 @@
 use mathlib.Core.Path.{_≡_, sym, _∙_}
 use Prim.Native.Nat.{ℕ}
 use native.Mathlib.Omega.{arith}
+use mathlib.Core.Bool.{Bool}
 use mathlib.Core.List.{List}
 use Rattle.rows.specs.declared.fault.Fault.{Fault}
 use Rattle.rows.specs.declared.fault.Reading.{Reading}
 use Rattle.rows.specs.declared.fault.Reading.the-variants as reading
-use Rattle.rows.specs.Rules.{AllGood}
+use Rattle.rows.specs.declared.row.Row.{Row}
+use Rattle.rows.specs.Row.{All}
 use Rattle.rows.specs.Runs.{Run, ReadAs, EndsWithin}
 use Rattle.rows.proofs.Sofar.{reads-refused}
 use Rattle.words.specs.declared.picture.Admission.{Admission}
@@ -23,9 +25,9 @@ module _ {S : Type 0} (run : Run S) {a r : Admission} (e : r ≡ a) {old : List 
 
 -- what holds of the words' run holds of all that is read
 module _ {S : Type 0} (run : Run S) where
-  pub admitted-good : (a : Admission) → AllGood (run .rows) → AllGood (admitted a run .rows)
-  admitted-good Admitted h = h
-  admitted-good (Refused f) h = tt
+  pub admitted-passes : (test : Row → Bool) (a : Admission) → All test (run .rows) → All test (admitted a run .rows)
+  admitted-passes test Admitted h = h
+  admitted-passes test (Refused f) h = tt
 
   pub admitted-within : (a : Admission) (n : ℕ) → EndsWithin (run .ending) n → EndsWithin (admitted a run .ending) n
   admitted-within Admitted n h = h

@@ -2,7 +2,7 @@
 use mathlib.Core.Path.{_∙_, ap}
 use Rattle.words.specs.Words.{Words, wordsOf}
 use Rattle.words.specs.Machine.{run}
-use Rattle.words.specs.Promises.{FieldSmall, FieldPlaced, FieldParts, TypeFound, TypeBelow, FieldBytes, RoomRefused, WordsBack, RunTwoParts, RowsFit, RowsGood, PlacesWithin, KeptUp, RoundTrip}
+use Rattle.words.specs.Promises.{FieldSmall, FieldPlaced, FieldParts, TypeFound, TypeBelow, FieldBytes, RoomRefused, WordsBack, RunTwoParts, RowsFit, RowsPass, PlacesWithin, KeptUp, RoundTrip}
 use Rattle.words.proofs.BitFields as fields
 use Rattle.words.proofs.ByteFields as byteFields
 use Rattle.words.proofs.Bytes as bytes
@@ -10,7 +10,7 @@ use Rattle.words.proofs.Cut.{words-join}
 use Rattle.words.proofs.KeptUp.{read-beside}
 use Rattle.words.proofs.Places.{reading-within}
 use Rattle.words.proofs.Returned.{comes-back}
-use Rattle.words.proofs.RowsGiven.{reading-fits, reading-good}
+use Rattle.words.proofs.RowsGiven.{reading-fits, reading-passes}
 use Rattle.words.proofs.TwoParts.{run-join}
 use Rattle.words.proofs.Writings.{room-exact}
 
@@ -46,8 +46,8 @@ run-two-parts S m k xs ys some h s place room =
 pub rows-fit : RowsFit
 rows-fit S m ws s place room = reading-fits m ws s place room
 
-pub rows-good : RowsGood
-rows-good S m Kept k ws s place room h = reading-good m k ws s place room h
+pub rows-pass : RowsPass
+rows-pass S m test Kept k ws s place room h = reading-passes m k ws s place room h
 
 pub places-within : PlacesWithin
 places-within S m Kept k bytes s at room h g = reading-within m k bytes s at room h g

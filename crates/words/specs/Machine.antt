@@ -7,8 +7,7 @@ use lib.ListN.{drop}
 use Rattle.rows.specs.declared.fault.Fault.{Fault}
 use Rattle.rows.specs.declared.fault.Fault.the-variants.{Cut}
 use Rattle.rows.specs.declared.row.Row.{Row}
-use Rattle.rows.specs.Row.{only}
-use Rattle.rows.specs.Rules.{AllGood}
+use Rattle.rows.specs.Row.{only, All}
 use Rattle.rows.specs.Runs.{finished, refused, Run, stopped, give, andThen}
 use Rattle.words.specs.Words.{Words, word, whole, part, wordsOf}
 
@@ -70,9 +69,9 @@ reading m ws s place room = andThen (run m ws s place room) room (closed m)
 abbrev pub readFrom : {S : Type 0} → Machine S → List ℕ → S → ℕ → ℕ → Run (Reached S)
 readFrom m bytes s at room = reading m (wordsOf (m .size) (drop at bytes)) s at room
 
--- a machine that keeps a property of its state gives good rows from it on
-pub record Keeps {S : Type 0} (m : Machine S) (Kept : S → Type 0) : Type 0 where
-  pub step : (s : S) (place w : ℕ) (s′ : S) (new : List Row) → Kept s → m .step s place w ≡ next s′ new → Kept s′ × AllGood new
+-- a machine that keeps a property of its state gives rows that pass a test from it on
+pub record Keeps {S : Type 0} (m : Machine S) (test : Row → Bool) (Kept : S → Type 0) : Type 0 where
+  pub step : (s : S) (place w : ℕ) (s′ : S) (new : List Row) → Kept s → m .step s place w ≡ next s′ new → Kept s′ × All test new
 
 -- a machine whose group in hand never begins past the word at hand; a property of the state and the place says so
 pub record Follows {S : Type 0} (m : Machine S) (Kept : S → ℕ → Type 0) : Type 0 where

@@ -6,8 +6,8 @@ use mathlib.Core.List.{List, [], _∷_, _++_}
 use lib.ListN.{length, take, drop, getD}
 use Rattle.rows.specs.declared.fault.Fault.the-variants.{NoRoom}
 use Rattle.rows.specs.declared.row.Row.{Row}
-use Rattle.rows.specs.Row.{only}
-use Rattle.rows.specs.Rules.{AllGood, accepted, refused, verdictOf}
+use Rattle.rows.specs.Row.{only, All}
+use Rattle.rows.specs.Rules.{accepted, refused, verdictOf}
 use Rattle.rows.specs.Runs.{finished, Run, andThen, EndsWithin, Finishes}
 use Rattle.words.specs.Words.{value, Words, word, wordsOf, bytesOfAll}
 use Rattle.words.specs.Fields.{field, typed, placed}
@@ -72,9 +72,10 @@ RunTwoParts = (S : Type 0) (m : Machine S) (k : ℕ) (xs ys : List ℕ) → 0 < 
 abbrev pub RowsFit : Type 1
 RowsFit = (S : Type 0) (m : Machine S) (ws : Words) (s : S) (place room : ℕ) → length (reading m ws s place room .rows) ≤ room
 
--- a machine whose every word gives good rows gives good rows alone
-abbrev pub RowsGood : Type 1
-RowsGood = (S : Type 0) (m : Machine S) (Kept : S → Type 0) → Keeps m Kept → (ws : Words) (s : S) (place room : ℕ) → Kept s → AllGood (reading m ws s place room .rows)
+-- where the rows of every word pass a test, all rows of a machine do
+abbrev pub RowsPass : Type 1
+RowsPass = (S : Type 0) (m : Machine S) (test : Row → Bool) (Kept : S → Type 0) → Keeps m test Kept → (ws : Words) (s : S) (place room : ℕ) → Kept s
+    → All test (reading m ws s place room .rows)
 
 -- 01, "Refusal numbers": a refusal's place lies in the input, or at its end, for every machine that follows its words
 abbrev pub PlacesWithin : Type 1

@@ -11,7 +11,7 @@ use Rattle.rows.specs.declared.row.Row.{Row}
 use Rattle.rows.specs.declared.rules.Kind.{Kind}
 use Rattle.rows.specs.declared.rules.Kind.the-variants.{Pixel, Trigger, ImuCounts, ImuSingles, Special, Other}
 use Rattle.rows.specs.Fault.{numberOf}
-use Rattle.rows.specs.Row.{flat, over, timeOf, rowsOf, timed, cameraRow, pixelRow, triggerRow, countsRow, singlesRow, specialRow}
+use Rattle.rows.specs.Row.{flat, over, timeOf, rowsOf, timed, cameraRow, triggerRow, countsRow, singlesRow, specialRow}
 use Rattle.rows.specs.Rules.{kindOf, goodRow, accepted, verdictFrom, Writable}
 use Rattle.rows.specs.Runs.{Run, andThen}
 

@@ -42,6 +42,10 @@ abbrev pub GoodGroups : ℕ → List Group → Type 0
 GoodGroups since [] = Unit {0}
 GoodGroups since (g ∷ gs) = (Pixels since g ⊎ TriggerGroup since g) × GoodGroups (timeOf (g .first)) gs
 
+-- pixels of equal time, line, polarity and camera
+pub same-rows : {t u y z p q c d : ℕ} (xs : List ℕ) → t ≡ u → y ≡ z → p ≡ q → c ≡ d → rowsAt t y p c xs ≡ rowsAt u z q d xs
+same-rows xs e f g h = cc
+
 -- a row before groups: it is one of its own, or the first one's
 module _ (since : ℕ) (r : Row) (good : goodRow r ≡ true) (can : writable r ≡ true) (late : since ≤ timeOf r) (narrow : r .low < 4294967296) where
   made : GoodMade r
@@ -75,9 +79,6 @@ module _ (since : ℕ) (r : Row) (good : goodRow r ≡ true) (can : writable r �
   joined-good [] h = (alone-good, tt)
   joined-good (g ∷ gs) h = go (goesOn r (g .first)) refl
     where
-      same-rows : {t u y z p q c d : ℕ} (xs : List ℕ) → t ≡ u → y ≡ z → p ≡ q → c ≡ d → rowsAt u z q d xs ≡ rowsAt t y p c xs
-      same-rows xs e f g h = cc
-
       both : goesOn r (g .first) ≡ true → Pixels (timeOf r) g → Pixels since (record { first = r; more = g .first ∷ g .more })
       both e s =
           let p = goes-on-parts r (g .first) e in
@@ -89,7 +90,7 @@ module _ (since : ℕ) (r : Row) (good : goodRow r ≡ true) (can : writable r �
             polarity = made .pixel (p .0) .4;
             camera = made .pixel (p .0) .5;
             rising = (omega arith, pixel-within r can (p .0) .0, (omega (arith, p .6), s .rising .1, s .rising .2));
-            rows = ap₂ _∷_ (made .pixel (p .0) .0) (s .rows ∙ same-rows (columnsOf (g .first ∷ g .more)) (p .2) (p .3) (p .4) (p .5));
+            rows = ap₂ _∷_ (made .pixel (p .0) .0) (s .rows ∙ sym (same-rows (columnsOf (g .first ∷ g .more)) (p .2) (p .3) (p .4) (p .5)));
           }
 
       go : (k : Bool) → goesOn r (g .first) ≡ k

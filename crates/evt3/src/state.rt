@@ -20,10 +20,11 @@ pub struct State {
     // How often the clock wrapped, and the high part of the time.
     pub wraps: u32,
     pub high: u16,
-    // The line, and which of two cameras sees it: known together.
+    // The line.
     pub y: u16,
     // The column that the next vector begins at.
     pub base: u16,
+    // Which of two cameras sees the line. It is known where the line is.
     pub camera: u8,
     // The polarity of the next vector.
     pub polarity: u8,

@@ -149,9 +149,6 @@ module _ (time : ℕ) (h : time < 17179869184) where
   unfolding goodRow goodAs kindOf timed
   camera-good x y p c hx hy hp hc = simp (timed-timely 1 x y p c 0 0 0, lt-ltb _ _ hx, lt-ltb _ _ hy, lt-ltb _ _ hp, lt-ltb _ _ hc)
 
-  pub pixel-good : (x y polarity : ℕ) → x < 32768 → y < 32768 → polarity < 2 → goodRow (pixelRow time x y polarity) ≡ true
-  pixel-good x y p hx hy hp = camera-good x y p 0 hx hy hp (lit< tt)
-
   pub trigger-good : (channel edge : ℕ) → channel < 32 → edge < 2 → goodRow (triggerRow time channel edge) ≡ true
   unfolding goodRow goodAs kindOf timed
   trigger-good channel edge hc he = simp (timed-timely 2 channel edge 0 0 0 0 0, lt-ltb _ _ hc, lt-ltb _ _ he)
@@ -177,7 +174,7 @@ module _ (time : ℕ) (h : time < 17179869184) where
   plain-timed kind a b c d e f g h k = rw (h, k)
 
   pub pixel-plain : (x y polarity : ℕ) → x < 32768 → y < 32768 → polarity < 2 → plainRow (pixelRow time x y polarity) ≡ true
-  pixel-plain x y p hx hy hp = plain-timed 1 x y p 0 0 0 0 (pixel-good x y p hx hy hp) refl
+  pixel-plain x y p hx hy hp = plain-timed 1 x y p 0 0 0 0 (camera-good x y p 0 hx hy hp (lit< tt)) refl
 
   pub trigger-plain : (channel edge : ℕ) → channel < 32 → edge < 2 → plainRow (triggerRow time channel edge) ≡ true
   trigger-plain channel edge hc he = plain-timed 2 channel edge 0 0 0 0 0 (trigger-good channel edge hc he) refl

@@ -4,7 +4,7 @@
 // numbers of the kind's own. Readers put rows into a slice that the caller lends, writers take rows out of one,
 // and nothing here allocates or names a format:
 //
-//     Row::pixel(time, x, y, polarity)    a row of a kind from its values; so for the other four kinds, and for a pixel of camera 1
+//     Row::pixel(time, x, y, polarity)    a row of a kind from its values; so for the other four kinds. camera_pixel names the camera too
 //     put(rows, i, row), get(rows, i)     row i of a lent slice; where there is no row i nothing is touched
 //     good(row), judge(kind, row, ..)     the row rules, and what a writer asks of one row after another
 //     Reading, Writing, Fault             what a reader and a writer answer, with the number of each refusal

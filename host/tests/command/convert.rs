@@ -113,7 +113,6 @@ const OTHER_WORDS: &str = "what to do: try the other words, or use the rows as .
 /// A recording, its format, the words asked for, and the message.
 fn refused() -> [(Vec<u8>, &'static str, &'static str, String); 7] {
     let unwritable = "refused 12: a bad row, or one that the format cannot write";
-    let other = OTHER_WORDS;
     let imu = "65 µs IMU counts acceleration x 1 y -2 z 0 g rotation x 1 y 0 z -0.007633588 °/s";
     let back = "refused 5: a time goes back, is negative or passes the limit";
     let order =
@@ -125,20 +124,20 @@ fn refused() -> [(Vec<u8>, &'static str, &'static str, String); 7] {
             special,
             "aedat",
             "evt2",
-            format!("{unwritable}\nat row 0 of recording (counted from 0): 7 µs special type 5 data 9; nothing was written\n{other}\n"),
+            format!("{unwritable}\nat row 0 of recording (counted from 0): 7 µs special type 5 data 9; nothing was written\n{OTHER_WORDS}\n"),
         ),
-        (in_order(), "evt2", "evt3", format!("{unwritable}\nat row 1 of recording (counted from 0): {imu}; nothing was written\n{other}\n")),
+        (in_order(), "evt2", "evt3", format!("{unwritable}\nat row 1 of recording (counted from 0): {imu}; nothing was written\n{OTHER_WORDS}\n")),
         (
             inputs::dat(),
             "dat",
             "evt3",
-            format!("{unwritable}\nat row 1 of recording (counted from 0): 12500100 µs pixel x 16383 y 479 darker camera 0; nothing was written\n{other}\n"),
+            format!("{unwritable}\nat row 1 of recording (counted from 0): 12500100 µs pixel x 16383 y 479 darker camera 0; nothing was written\n{OTHER_WORDS}\n"),
         ),
         (
             two_cameras(),
             "evt3",
             "evt2",
-            format!("{unwritable}\nat row 1 of recording (counted from 0): 4098 µs pixel x 5 y 3 darker camera 1; nothing was written\n{other}\n"),
+            format!("{unwritable}\nat row 1 of recording (counted from 0): 4098 µs pixel x 5 y 3 darker camera 1; nothing was written\n{OTHER_WORDS}\n"),
         ),
         // the USB packet before the pixel is no row
         (

@@ -2,6 +2,29 @@
 //!
 //! Nothing here decides a result: a slice is handed over, and what comes back is given a Rust type. A Rust slice is never
 //! null and a `&mut` slice overlaps no other, which is all that the interface asks of its callers.
+//!
+//! In the `Cargo.toml` of a program, with the path of this folder, after `rt staticlib fryskelom` in the repository:
+//!
+//! ```toml
+//! [dependencies]
+//! fryskelom = { path = "fryskelom/host" }
+//! ```
+//!
+//! A reader writes rows of [`ROW_NUMBERS`] numbers into the caller's buffer. A buffer of [`most_rows_evt3`] rows, or of what belongs to
+//! another format, is always enough:
+//!
+//! ```
+//! use fryskelom::{event_of, kind, most_rows_evt3, read_evt3, Refusal, ROW_NUMBERS};
+//!
+//! let words = [0x01, 0x80, 0x02, 0x60, 0x03, 0x00, 0x05, 0x28, 0x00];
+//! let mut rows = vec![0; ROW_NUMBERS * most_rows_evt3(words.len())];
+//! let fault = read_evt3(&words, 1280, 720, &mut rows).unwrap_err();
+//! assert_eq!((fault.refusal, fault.place, fault.rows), (Refusal::CUT, 8, 1));
+//! assert_eq!(fault.refusal.text(), "the input ends inside a word, group, event, packet or header");
+//! // the row before the fault is there
+//! let event = event_of(&rows[..ROW_NUMBERS]).expect("a row that was read is good");
+//! assert_eq!((event.kind, event.time, event.data), (kind::PIXEL, 4098, [5, 3, 1, 0, 0, 0, 0]));
+//! ```
 
 use std::error::Error;
 use std::fmt;
@@ -18,12 +41,78 @@ pub const MOST_ROWS: usize = 16_777_216;
 pub const EVT_SIDE: u32 = 2_048;
 pub const DAT_SIDE: u32 = 16_384;
 
-/// The numbers of all refusals. 7 was that of a slave camera's bit, and no other refusal ever gets it.
-pub const REFUSALS: [u64; 13] = [1, 2, 3, 4, 5, 6, 8, 9, 10, 11, 12, 13, 14];
+/// The numbers of a row: kind, time mod 2^32, time div 2^32, and seven data numbers.
+pub const ROW_NUMBERS: usize = 10;
+
+/// Microseconds from one wrap of the EVT3 clock to the next. The times of rows count every wrap.
+pub const EVT3_WRAP: u64 = 16_777_216;
+
+/// The kinds of rows: a row's first number. 5 was that of USB packets, and no other kind ever gets it.
+pub mod kind {
+    pub const PIXEL: u32 = 1;
+    pub const TRIGGER: u32 = 2;
+    pub const IMU_COUNTS: u32 = 3;
+    pub const IMU_SINGLES: u32 = 4;
+    pub const SPECIAL: u32 = 6;
+}
 
 /// Why an input was refused: the number of the README's table.
 #[derive(Clone, Copy, Debug, PartialEq, Eq)]
 pub struct Refusal(pub u64);
+
+/// 7 was the number of a slave camera's bit, and no other refusal ever gets it.
+impl Refusal {
+    pub const TOO_LONG: Refusal = Refusal(1);
+    pub const NO_ROOM: Refusal = Refusal(2);
+    pub const RESERVED: Refusal = Refusal(3);
+    pub const CUT: Refusal = Refusal(4);
+    pub const BAD_TIME: Refusal = Refusal(5);
+    pub const OUTSIDE: Refusal = Refusal(6);
+    pub const STRAY: Refusal = Refusal(8);
+    pub const BAD_HEADER: Refusal = Refusal(9);
+    pub const BAD_PACKET: Refusal = Refusal(10);
+    pub const CLOCK_RESET: Refusal = Refusal(11);
+    pub const BAD_ROW: Refusal = Refusal(12);
+    pub const BAD_LIST: Refusal = Refusal(13);
+    pub const BAD_PICTURE: Refusal = Refusal(14);
+
+    /// All refusals, in the order of their numbers.
+    pub const ALL: [Refusal; 13] = [
+        Refusal::TOO_LONG,
+        Refusal::NO_ROOM,
+        Refusal::RESERVED,
+        Refusal::CUT,
+        Refusal::BAD_TIME,
+        Refusal::OUTSIDE,
+        Refusal::STRAY,
+        Refusal::BAD_HEADER,
+        Refusal::BAD_PACKET,
+        Refusal::CLOCK_RESET,
+        Refusal::BAD_ROW,
+        Refusal::BAD_LIST,
+        Refusal::BAD_PICTURE,
+    ];
+
+    /// What was found, in plain words.
+    pub const fn text(self) -> &'static str {
+        match self {
+            Refusal::TOO_LONG => "the input is longer than 1073741824 bytes",
+            Refusal::NO_ROOM => "rows or bytes do not fit the buffer",
+            Refusal::RESERVED => "a word of a reserved type",
+            Refusal::CUT => "the input ends inside a word, group, event, packet or header",
+            Refusal::BAD_TIME => "a time goes back, is negative or passes the limit",
+            Refusal::OUTSIDE => "a pixel outside the picture, or a polarity over 1",
+            Refusal::STRAY => "a word inside an IMU group does not continue it",
+            Refusal::BAD_HEADER => "a bad text header, or a bad type or size after it",
+            Refusal::BAD_PACKET => "a bad AEDAT packet",
+            Refusal::CLOCK_RESET => "the camera's clock was reset",
+            Refusal::BAD_ROW => "a bad row, or one that the format cannot write",
+            Refusal::BAD_LIST => "a list whose length is no multiple of ten, or over 16777216 rows",
+            Refusal::BAD_PICTURE => "a picture width or height of 0 or over 2048",
+            _ => "no refusal has this number",
+        }
+    }
+}
 
 /// Why and where a reader stopped. The rows finished before stand in the lent buffer.
 #[derive(Clone, Copy, Debug, PartialEq, Eq)]
@@ -47,13 +136,13 @@ pub struct RowFault {
 
 impl fmt::Display for Refusal {
     fn fmt(&self, f: &mut fmt::Formatter<'_>) -> fmt::Result {
-        write!(f, "refusal {}", self.0)
+        write!(f, "refusal {}: {}", self.0, self.text())
     }
 }
 
 impl fmt::Display for Fault {
     fn fmt(&self, f: &mut fmt::Formatter<'_>) -> fmt::Result {
-        write!(f, "{} at byte {} after {} rows", self.refusal, self.place, self.rows)
+        write!(f, "refusal {} at byte {} after {} rows: {}", self.refusal.0, self.place, self.rows, self.refusal.text())
     }
 }
 
@@ -61,8 +150,8 @@ impl fmt::Display for RowFault {
     fn fmt(&self, f: &mut fmt::Formatter<'_>) -> fmt::Result {
         match self.refusal {
             // no row is at fault
-            Refusal(2 | 13) => self.refusal.fmt(f),
-            _ => write!(f, "{} at row {}", self.refusal, self.row),
+            Refusal::NO_ROOM | Refusal::BAD_LIST => self.refusal.fmt(f),
+            _ => write!(f, "refusal {} at row {}: {}", self.refusal.0, self.row, self.refusal.text()),
         }
     }
 }
@@ -76,8 +165,8 @@ impl Error for RowFault {}
 /// The event of a row.
 #[derive(Clone, Copy, Debug)]
 pub struct Event {
-    /// 1 pixel, 2 trigger, 3 IMU counts, 4 IMU singles, 6 special. Number 5 was that of USB packets, and no other kind ever gets it.
-    pub kind: u64,
+    /// One of those in [`mod@kind`].
+    pub kind: u32,
     /// Microseconds.
     pub time: u64,
     /// The row's own seven data numbers. Those of a pixel are x, y, polarity and camera, 0 or 1, and then zeros.
@@ -105,7 +194,8 @@ pub fn event_of(row: &[u32]) -> Result<Event, Refusal> {
         return Err(Refusal(event.refusal));
     }
     Ok(Event {
-        kind: event.kind,
+        // a good row's own first number
+        kind: event.kind as u32,
         time: event.time,
         data: event.data,
         readings: event.readings,
@@ -135,7 +225,7 @@ pub fn read_header(bytes: &[u8], limit: u32) -> Result<Header, Fault> {
     }
 }
 
-/// Reads a RAW file of EVT2 words. Its header says how large the picture is, and a side that it leaves out has 2,048 pixels. Places count
+/// Reads a RAW file of EVT2 words. Its header says how large the picture is, and a side that it leaves out has 2048 pixels. Places count
 /// from the file's first byte; all else is as in [`read_evt2`].
 pub fn read_raw_evt2(bytes: &[u8], rows: &mut [u32]) -> Result<usize, Fault> {
     read_file(sys::fry_read_raw_evt2, bytes, rows)
@@ -146,7 +236,7 @@ pub fn read_raw_evt3(bytes: &[u8], rows: &mut [u32]) -> Result<usize, Fault> {
     read_file(sys::fry_read_raw_evt3, bytes, rows)
 }
 
-/// Reads a DAT file. A side of its picture has at most 16,384 pixels, and so many where the header leaves it out; all else is as in
+/// Reads a DAT file. A side of its picture has at most 16384 pixels, and so many where the header leaves it out; all else is as in
 /// [`read_raw_evt2`].
 pub fn read_dat(bytes: &[u8], rows: &mut [u32]) -> Result<usize, Fault> {
     read_file(sys::fry_read_dat, bytes, rows)
@@ -166,9 +256,39 @@ pub fn write_evt2(rows: &[u32], out: &mut [u8]) -> Result<usize, RowFault> {
 }
 
 /// Writes a list of rows, of either camera, as EVT3 words of two bytes: at most four for a row, and two more for each wrap of the clock
-/// (16,777,216 microseconds) up to the last row's time. All else is as in [`write_evt2`].
+/// ([`EVT3_WRAP`]) up to the last row's time. All else is as in [`write_evt2`].
 pub fn write_evt3(rows: &[u32], out: &mut [u8]) -> Result<usize, RowFault> {
     write_words(sys::fry_write_evt3, rows, out)
+}
+
+/// As many rows as so many bytes of EVT2 words can give, and a RAW file of them. A buffer of ten times as many numbers is always enough.
+pub const fn most_rows_evt2(bytes: usize) -> usize {
+    bytes / 4
+}
+
+/// As many rows as so many bytes of EVT3 words can give, and a RAW file of them: twelve a word.
+pub const fn most_rows_evt3(bytes: usize) -> usize {
+    (bytes / 2).saturating_mul(12)
+}
+
+/// As many rows as a DAT file of so many bytes can give.
+pub const fn most_rows_dat(bytes: usize) -> usize {
+    bytes / 8
+}
+
+/// As many rows as an AEDAT file of so many bytes can give.
+pub const fn most_rows_aedat(bytes: usize) -> usize {
+    bytes / 8
+}
+
+/// As many EVT2 words, of four bytes each, as are always enough for so many rows.
+pub const fn most_words_evt2(rows: usize) -> usize {
+    rows.saturating_mul(7)
+}
+
+/// As many EVT3 words, of two bytes each, as are always enough for so many rows, the last of them at this time.
+pub const fn most_words_evt3(rows: usize, last_time: u64) -> usize {
+    rows.saturating_mul(4).saturating_add(2 * (last_time / EVT3_WRAP) as usize)
 }
 
 fn read_words(reader: sys::WordReader, bytes: &[u8], width: u32, height: u32, rows: &mut [u32]) -> Result<usize, Fault> {

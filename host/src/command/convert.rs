@@ -2,30 +2,39 @@
 use super::arguments::{Source, Target};
 use super::formats::Words;
 use super::memory::{zeros, Lack};
+use super::out::Out;
 use super::progress::Progress;
-use super::recording::{time_of, Recording};
-use super::{new_file, output, refusals, Failure};
-use fryskelom::MOST_ROWS;
+use super::recording::{time_of, Input};
+use super::selection::Selection;
+use super::{header, output, refusals, Failure};
+use fryskelom::{MOST_ROWS, ROW_NUMBERS};
 use std::ffi::OsStr;
 
-/// Writes the rows of a recording as words to a file, or to standard output where it is `-`, all of them or none.
-pub fn convert(source: &Source, (to, words): Target, out: &OsStr) -> Result<(), Failure> {
-    let mut progress = Progress::new();
-    let recording = Recording::load(source, &mut progress)?;
-    let reading = recording.read(&mut progress);
+/// Writes those rows of a recording that are selected as words to a file or a stream, all of them or none.
+pub fn convert(source: &Source, selection: &Selection, (to, words): Target, out: &OsStr) -> Result<(), Failure> {
+    let progress = Progress::new();
+    let input = Input::open(source)?;
+    let out = Out::new(out, &input, source.force)?;
+    let recording = input.load(source, &progress)?;
+    let mut reading = recording.read(&progress);
     reading.end(&recording)?;
-    progress.stage(&format!("writing {} rows", reading.rows()));
+    header::note(&recording, &progress);
+    let all = reading.rows();
+    reading.select(selection);
+    progress.stage("writing", "rows");
+    progress.done(reading.rows());
     let (count, bytes) = spelling(words, reading.numbers(), &recording.name)?;
-    let report = format!("written; rows: {}, {to} words: {count}, bytes: {}\nto read it back: --format {to}", reading.rows(), bytes.len());
-    if out == "-" {
-        output::write(&bytes)?;
-        drop(progress);
-        output::tell(&report);
-        return Ok(());
-    }
-    new_file::write(out, &bytes)?;
+    out.write(&bytes)?;
     drop(progress);
-    output::write(format!("{}: {report}\n", out.display()).as_bytes())
+    let of = if selection.is_any() { format!(" of {all}") } else { String::new() };
+    let report = format!("written; rows: {}{of}, {to} words: {count}, bytes: {}\nto read it back: --format {to}", reading.rows(), bytes.len());
+    match out.leaves_standard_output() {
+        true => output::write(format!("{}: {report}\n", out.name()).as_bytes()),
+        false => {
+            output::tell(&report);
+            Ok(())
+        }
+    }
 }
 
 /// The number of words for a list of rows, and their bytes.
@@ -40,6 +49,6 @@ fn spelling(words: &Words, numbers: &[u32], name: &str) -> Result<(usize, Vec<u8
 /// As many words as are always enough for a list of rows.
 fn most_words(words: &Words, numbers: &[u32]) -> usize {
     // a longer list is refused (13) before its buffer is looked at
-    let rows = (numbers.len() / 10).min(MOST_ROWS);
-    (words.most)(rows, numbers.chunks_exact(10).last().map_or(0, time_of))
+    let rows = (numbers.len() / ROW_NUMBERS).min(MOST_ROWS);
+    (words.most)(rows, numbers.chunks_exact(ROW_NUMBERS).last().map_or(0, time_of))
 }

@@ -1,6 +1,8 @@
 //! The formats that a recording can have. What the command knows of a format stands in its entry of the table, and nowhere else.
+use super::claims::Says;
 use fryskelom::{
-    read_aedat, read_dat, read_evt2, read_evt3, read_raw_evt2, read_raw_evt3, write_evt2, write_evt3, Fault, RowFault, DAT_SIDE, EVT_SIDE,
+    most_rows_aedat, most_rows_dat, most_rows_evt2, most_rows_evt3, most_words_evt2, most_words_evt3, read_aedat, read_dat, read_evt2, read_evt3,
+    read_raw_evt2, read_raw_evt3, write_evt2, write_evt3, Fault, RowFault, DAT_SIDE, EVT3_WRAP, EVT_SIDE,
 };
 use std::ffi::OsStr;
 use std::fmt::Display;
@@ -13,9 +15,11 @@ pub struct Format {
     pub title: &'static str,
     /// What the help says of it. Neighbours that have the same help share a line.
     pub help: &'static str,
-    /// The suffix that tells it.
+    /// The suffix that tells it, and says what it is where no format is named.
     suffix: Option<&'static str>,
     pub head: Head,
+    /// What a file of it may say of itself.
+    pub own: &'static [Says],
     /// The library's reading.
     pub read: Read,
     /// Microseconds from one wrap of its clock to the next, where its clock wraps.
@@ -66,14 +70,11 @@ pub struct Words {
     pub write: fn(&[u32], &mut [u8]) -> Result<usize, RowFault>,
 }
 
-/// Microseconds from one wrap of the EVT3 clock to the next.
-const EVT3_WRAP: u64 = 16_777_216;
+const WORDS: &str = "bare words, without a header";
+const RAW: &str = "a RAW file of such words";
+const TOLD: &str = "a DAT file, an AEDAT 3.1 file";
 
-const WORDS: &str = "bare words";
-const RAW: &str = "a RAW file of such words: a line such as `% evt 3.0` among its first lines usually tells which";
-const TOLD: &str = "a DAT file, an AEDAT 3.1 file: not needed where the name ends in .dat or .aedat";
-
-/// An EVT2 word gives at most one row, an EVT3 word twelve, though seldom more than one on the whole, and eight bytes of a DAT or AEDAT file one.
+/// EVT3 words, each of which can give twelve rows, seldom give more than one a word on the whole.
 pub const FORMATS: &[Format] = &[
     Format {
         name: "evt2",
@@ -81,14 +82,15 @@ pub const FORMATS: &[Format] = &[
         help: WORDS,
         suffix: None,
         head: Head::None,
+        own: &[],
         read: |bytes, asked, rows| read_evt2(bytes, side(asked.width), side(asked.height), rows),
         wrap: None,
-        most_rows: |bytes| bytes / 4,
-        first_rows: |bytes| bytes / 4,
+        most_rows: most_rows_evt2,
+        first_rows: most_rows_evt2,
         words: Some(Words {
-            holds: "pixels of camera 0 alone, below 2048 by 2048, triggers of channels 0 to 31 and IMU counts",
+            holds: "pixels of camera 0 alone, below 2048 by 2048, triggers of channels 0 to 31, IMU counts",
             size: 4,
-            most: |rows, _| 7 * rows,
+            most: |rows, _| most_words_evt2(rows),
             write: write_evt2,
         }),
     },
@@ -98,14 +100,15 @@ pub const FORMATS: &[Format] = &[
         help: WORDS,
         suffix: None,
         head: Head::None,
+        own: &[],
         read: |bytes, asked, rows| read_evt3(bytes, side(asked.width), side(asked.height), rows),
         wrap: Some(EVT3_WRAP),
-        most_rows: |bytes| (bytes / 2).saturating_mul(12),
+        most_rows: most_rows_evt3,
         first_rows: |bytes| bytes / 2,
         words: Some(Words {
-            holds: "pixels of cameras 0 and 1, below 2048 by 2048, and triggers of channels 0 to 15",
+            holds: "pixels of cameras 0 and 1, below 2048 by 2048, triggers of channels 0 to 15",
             size: 2,
-            most: |rows, last| 4 * rows + 2 * (last / EVT3_WRAP) as usize,
+            most: most_words_evt3,
             write: write_evt3,
         }),
     },
@@ -115,10 +118,11 @@ pub const FORMATS: &[Format] = &[
         help: RAW,
         suffix: None,
         head: Head::Text(EVT_SIDE),
+        own: &[Says::Evt2, Says::Text],
         read: |bytes, _, rows| read_raw_evt2(bytes, rows),
         wrap: None,
-        most_rows: |bytes| bytes / 4,
-        first_rows: |bytes| bytes / 4,
+        most_rows: most_rows_evt2,
+        first_rows: most_rows_evt2,
         words: None,
     },
     Format {
@@ -127,9 +131,10 @@ pub const FORMATS: &[Format] = &[
         help: RAW,
         suffix: None,
         head: Head::Text(EVT_SIDE),
+        own: &[Says::Evt3, Says::Text],
         read: |bytes, _, rows| read_raw_evt3(bytes, rows),
         wrap: Some(EVT3_WRAP),
-        most_rows: |bytes| (bytes / 2).saturating_mul(12),
+        most_rows: most_rows_evt3,
         first_rows: |bytes| bytes / 2,
         words: None,
     },
@@ -139,10 +144,11 @@ pub const FORMATS: &[Format] = &[
         help: TOLD,
         suffix: Some("dat"),
         head: Head::Text(DAT_SIDE),
+        own: &[Says::Dat, Says::Text],
         read: |bytes, _, rows| read_dat(bytes, rows),
         wrap: None,
-        most_rows: |bytes| bytes / 8,
-        first_rows: |bytes| bytes / 8,
+        most_rows: most_rows_dat,
+        first_rows: most_rows_dat,
         words: None,
     },
     Format {
@@ -151,18 +157,19 @@ pub const FORMATS: &[Format] = &[
         help: TOLD,
         suffix: Some("aedat"),
         head: Head::Aedat,
+        own: &[Says::Aedat],
         read: |bytes, _, rows| read_aedat(bytes, rows),
         wrap: None,
-        most_rows: |bytes| bytes / 8,
-        first_rows: |bytes| bytes / 8,
+        most_rows: most_rows_aedat,
+        first_rows: most_rows_aedat,
         words: None,
     },
 ];
 
 impl Format {
-    /// The format of a name of `--format`.
+    /// The format of a name of `--format`, in any letter case.
     pub fn named(name: &str) -> Option<&'static Format> {
-        FORMATS.iter().find(|format| format.name == name)
+        FORMATS.iter().find(|format| format.name.eq_ignore_ascii_case(name))
     }
 
     /// The format that the suffix of a file's name tells.

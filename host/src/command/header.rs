@@ -1,7 +1,8 @@
 //! What `info` says of a recording's header and picture. Where lines end and what they say is the library's answer.
 use super::formats::{Asked, Head};
+use super::progress::Progress;
 use super::recording::{Recording, Stop};
-use fryskelom::{read_header, Header, EVT_SIDE, MOST_BYTES};
+use fryskelom::{read_header, Header, EVT_SIDE};
 
 /// The last line of the header of an AEDAT file.
 const AEDAT_END: &[u8] = b"#!END-HEADER\r\n";
@@ -13,7 +14,7 @@ const SHOWN: usize = 256;
 pub fn lines(recording: &Recording, stop: Option<Stop>) -> Vec<String> {
     match recording.format.head {
         Head::None => of_words(recording.asked),
-        _ if recording.bytes.len() > MOST_BYTES => vec!["header: not read, since the file is too long".to_string(), "picture: not known".to_string()],
+        _ if recording.is_too_long() => vec!["header: not read, since the file is too long".to_string(), "picture: not known".to_string()],
         Head::Text(side) => of_text(&recording.bytes, side),
         Head::Aedat => of_aedat(&recording.bytes, stop),
     }
@@ -36,14 +37,34 @@ fn of_text(bytes: &[u8], limit: u32) -> Vec<String> {
     }
 }
 
-/// The sides of the picture. One that changes with the limit is said by no line.
+/// The sides of the picture.
 fn sides(bytes: &[u8], limit: u32, header: Header) -> Vec<String> {
-    let other = read_header(bytes, limit + 1).expect("what is good below a limit is good below a higher one");
-    let side = |name: &str, pixels: u32, other: u32| match pixels == other {
+    let [width, height] = said(bytes, limit, header);
+    let side = |name: &str, pixels: u32, said: bool| match said {
         true => format!("picture {name}: {pixels} pixels"),
         false => format!("picture {name}: {pixels} pixels, the limit, since no line of the header says it"),
     };
-    vec![side("width", header.width, other.width), side("height", header.height, other.height)]
+    vec![side("width", header.width, width), side("height", header.height, height)]
+}
+
+/// Whether lines of the header say the width and the height. A side that changes with the limit is said by none.
+fn said(bytes: &[u8], limit: u32, header: Header) -> [bool; 2] {
+    let other = read_header(bytes, limit + 1).expect("what is good below a limit is good below a higher one");
+    [header.width == other.width, header.height == other.height]
+}
+
+/// Tells which picture was taken where the header of a file does not say it whole. `info` says it among other things.
+pub fn note(recording: &Recording, progress: &Progress) {
+    let Head::Text(limit) = recording.format.head else { return };
+    let Ok(header) = read_header(&recording.bytes, limit) else { return };
+    let unsaid = match said(&recording.bytes, limit, header) {
+        [true, true] => return,
+        [false, true] => "width",
+        [true, false] => "height",
+        [false, false] => "width or height",
+    };
+    let Header { width, height, .. } = header;
+    progress.note(&format!("note: the header of {} says no {unsaid}, so that a picture of {width} by {height} pixels was taken", recording.name));
 }
 
 /// The lines of an AEDAT file up to the end line. A fault in the header lies at the start of its line, so that those before are good.

@@ -1,8 +1,50 @@
-//! The help texts. What they say of the formats is taken from the table.
-use super::formats::{bare, capitals, listed, names_written, written, FORMATS};
+//! The help texts, in lines of at most 80 columns. What they say of the formats is taken from the table.
+use super::formats::{bare, capitals, listed, names_written, suffixes, written, FORMATS};
+use super::names::called;
+use super::{columns, selection};
+
+/// The most columns of a line.
+const COLUMNS: usize = 80;
+
+/// A text in lines, the first of them after some other text, the others below their own beginning.
+pub fn wrapped(first: &str, text: &str) -> String {
+    let indent = first.chars().count();
+    let (mut lines, mut width) = (first.to_string(), indent);
+    for (word, number) in text.split(' ').zip(0..) {
+        let letters = word.chars().count();
+        if number > 0 && width + 1 + letters > COLUMNS {
+            lines.push('\n');
+            lines.push_str(&" ".repeat(indent));
+            width = indent;
+        } else if number > 0 {
+            lines.push(' ');
+            width += 1;
+        }
+        lines.push_str(word);
+        width += letters;
+    }
+    lines + "\n"
+}
+
+/// A paragraph.
+fn paragraph(text: &str) -> String {
+    wrapped("", text) + "\n"
+}
+
+/// An option, and what it does.
+fn option(usage: &str, text: &str) -> String {
+    match usage.len() < INDENT - 2 {
+        true => wrapped(&format!("  {usage:<0$}", INDENT - 2), text),
+        // too long to have anything beside it
+        false => format!("  {usage}\n{}", wrapped(&" ".repeat(INDENT), text)),
+    }
+}
+
+/// Where the texts of options begin.
+const INDENT: usize = 20;
 
 pub fn short() -> String {
-    format!("usage: ./fryskelom info FILE, rows FILE, {}, or refusals", converting())
+    format!("usage: {} info FILE, rows FILE, {}, or refusals", called(), converting())
 }
 
 /// How `convert` is called.
@@ -10,104 +52,188 @@ fn converting() -> String {
     format!("convert IN OUT --to {}", names_written().collect::<Vec<_>>().join("|"))
 }
 
+/// How a command is called, and what it does.
+fn command(usage: &str, text: &str) -> String {
+    format!("  {} {usage}\n{}", called(), wrapped("      ", text))
+}
+
 /// A line for each format, or for some that are alike.
 fn lines_of_formats() -> String {
     let alike = FORMATS.chunk_by(|format, next| format.help == next.help);
-    let lines = alike.map(|formats| format!("{:<20} {}", formats.iter().map(|format| format.name).collect::<Vec<_>>().join(", "), formats[0].help));
-    lines.collect::<Vec<_>>().join("\n                    ")
+    let names = |formats: &[_]| formats.iter().map(|format: &super::formats::Format| format.name).collect::<Vec<_>>().join(", ");
+    alike.map(|formats| format!("{}{:<20}{}\n", " ".repeat(INDENT), names(formats), formats[0].help)).collect()
 }
 
 pub fn all() -> String {
-    format!(
-        "\
-Reads recordings of event cameras.
-
-  ./fryskelom info FILE                         what a recording holds: header, picture, numbers of events, times
-  ./fryskelom rows FILE                         its events as rows of ten numbers, or with --events in words
-  ./fryskelom {converting:<33} writes a recording anew as {words} words
-  ./fryskelom refusals                          why a recording is refused, by number, and what to do
-
-FILE and IN are files, or - for standard input.
-
-  --format FORMAT   {formats}
-  --width N         with {bare} alone: the picture's pixels, 1 to 2048; 2048 where left out
-  --height N        likewise
-  --help, -h        this text, or after a command its own
-  --version         the version
-  --                what follows is no option
-
-Times are whole microseconds. No number has a separator of thousands, neither a comma nor a point, and none may be given: 1280 is right.
-A recording that breaks a rule is refused where it does: what was finished before is still shown, and the message says where and what to do.
-
-The exit status is 0 where all is well, 1 where a recording is refused or a file or memory is not to be had, 2 where the arguments are wrong.
-
-For example:
-  ./fryskelom info gate.dat
-  ./fryskelom rows --events gate.raw --format raw-evt3
-  ./fryskelom convert gate.aedat gate.evt2 --to evt2
-",
-        converting = converting(),
-        words = capitals(names_written()),
-        formats = lines_of_formats(),
-        bare = listed(bare(), "", "and"),
-    )
+    let example = |line: &str| format!("  {} {line}\n", called());
+    [
+        "Reads recordings of event cameras.\n\n".to_string(),
+        command("info FILE", "what a recording holds: header, picture, numbers of events, times and triggers"),
+        command("rows FILE", "its events, a line each: as numbers, in words, or how many there are from time to time"),
+        command(&converting(), &format!("writes a recording anew as {} words", capitals(names_written()))),
+        command("refusals", "why a recording is refused, by number, and what to do"),
+        "\n".to_string(),
+        paragraph("FILE and IN are files, or - for standard input. Each command tells its own options: give it --help."),
+        source(FORCED),
+        option("--help, -h", "this text, or after a command its own"),
+        option("--version, -V", "the version"),
+        option("--", "what follows is no option"),
+        "\n".to_string(),
+        paragraph(
+            "Times are whole microseconds. No number has a separator of thousands, neither a comma nor a point, and none may be given: 1280 is right.",
+        ),
+        paragraph(
+            "A recording that breaks a rule is refused where it does: what was finished before is still shown, and the message says where and what to do.",
+        ),
+        paragraph(
+            "The exit status is 0 where all is well, 1 where a recording is refused or a file or memory is not to be had, 2 where the arguments are wrong or \
+             something is only done with --force.",
+        ),
+        "For example:\n".to_string(),
+        example("info gate.dat"),
+        example("rows gate.raw --format raw-evt3 --events"),
+        example("convert gate.aedat gate.evt2 --to evt2"),
+    ]
+    .concat()
 }
 
-pub const INFO: &str = "\
-./fryskelom info FILE [--format FORMAT] [--width N] [--height N]
+/// What `--force` does.
+const FORCED: &str = "reads a recording whose header says another format than --format all the same";
 
-Prints the format, the size of the file, the lines of its header, the picture, how many events there are of each of the five kinds, and the
-first and the last time: the smallest and the largest, in whole microseconds. Where there is a pixel of camera 1, also how many pixels there
-are of each camera.
-Of EVT3 words, whose clock begins anew every 16777216 microseconds, also how often it did so before the last event and before the first: more
-wraps between the two than the recording took time for mean a damaged clock.
-If the recording is refused, all this is of the part before; the refusal follows on standard error, and the status is 1.
+/// The options that say what a recording is.
+fn source(forced: &str) -> String {
+    [
+        option("--format FORMAT", "what the recording is, in any letter case:"),
+        lines_of_formats(),
+        wrapped(&" ".repeat(INDENT), &format!(
+            "It is not needed where the name ends in {}. Of a RAW file you say which words it holds: what its header says is quoted where you leave \
+             it out, and held against what you say.",
+            listed(suffixes(), ".", "or")
+        )),
+        option("--width N", &format!("the picture's pixels, with {} alone: 1 to 2048, and 2048 where left out", listed(bare(), "", "and"))),
+        option("--height N", "likewise"),
+        option("--force", forced),
+    ]
+    .concat()
+}
 
-For FORMAT and N see ./fryskelom --help.
-";
+/// The options that filter rows.
+fn filters() -> String {
+    [
+        option("--from T", "at T microseconds or later"),
+        option("--until T", "before T microseconds, T not included"),
+        option("--kind KIND", &format!("of this kind: {}; several with commas between", listed(selection::kind_names(), "", "or"))),
+        option("--region X Y WIDTH HEIGHT", "pixels alone: in this part of the picture, whose first column is X and whose first line is Y"),
+        option("--camera N", "pixels alone: of camera 0 or 1"),
+    ]
+    .concat()
+}
 
-pub const ROWS: &str = "\
-./fryskelom rows FILE [--events] [--format FORMAT] [--width N] [--height N]
+const COMBINED: &str = "Filters, which can be combined; only what passes all of them is looked at:\n\n";
 
-Prints a line for each row, of ten numbers: kind, time mod 4294967296, time div 4294967296, and seven numbers that the kind gives a meaning.
+pub fn info() -> String {
+    [
+        format!("{} info FILE [options]\n\n", called()),
+        paragraph(
+            "Prints the format, the size of the file, the lines of its header, the picture, how many events there are of each of the five kinds, the first \
+             and the last time (the smallest and the largest), how many events are earlier than one before them, and the triggers: all of them, or the first \
+             and the last hundred. Where there is a pixel of camera 1, also how many pixels there are of each camera.",
+        ),
+        paragraph(
+            "Of EVT3 words, whose clock begins anew every 16777216 microseconds, also how often it did so before the last event and before the first: more \
+             wraps between the two than the recording took time for mean a damaged clock.",
+        ),
+        paragraph("If the recording is refused, all this is of the part before; the refusal follows on standard error, and the status is 1."),
+        COMBINED.to_string(),
+        filters(),
+        "\nTo be summed up:\n\n".to_string(),
+        option("--since EDGE", &format!("the shortest and the longest time since the last edge; for EDGE see {} rows --help", called())),
+        option("--bins MICROSECONDS", "how many bins of so many microseconds hold events, and the most in one"),
+        "\n".to_string(),
+        recording(FORCED),
+    ]
+    .concat()
+}
 
-  1 pixel         x, y, polarity (1 brighter, 0 darker), camera (0 or 1)
+pub fn rows() -> String {
+    [
+        format!("{} rows FILE [options]\n\n", called()),
+        paragraph(
+            "Prints a line for each event, in the order of the recording: a row of ten numbers, which are kind, time mod 4294967296, time div 4294967296, and \
+             seven numbers that the kind gives a meaning.",
+        ),
+        "\x20 1 pixel         x, y, polarity (1 brighter, 0 darker), camera (0 or 1)
   2 trigger       channel, edge (1 rising, 0 falling)
   3 IMU counts    acceleration X, Y, Z, rotation X, Y, Z, each 0 to 65535
   4 IMU singles   the bits of seven singles: as kind 3, then the temperature
   6 special       type, data
 
-There is no kind 5. USB packets among EVT2 words give no row.
-Camera 0 is the only one or a master, camera 1 a slave on the master's clock, which EVT3 words alone can have. Rows of both stand in the order
-of the recording.
-
-  --events        the same in words, with the time in microseconds and IMU readings in g, degrees a second and degrees Celsius;
-                  the point in a reading is a decimal point
-
-If the recording is refused, the rows before are printed; the refusal follows on standard error, and the status is 1.
-
-For FORMAT and N see ./fryskelom --help.
-";
-
-pub fn convert() -> String {
-    let held: String = written().map(|(name, words)| format!("  --to {name:<11}holds {}\n", words.holds)).collect();
-    format!(
-        "\
-./fryskelom {} [--format FORMAT] [--width N] [--height N]
-
-Reads the recording IN and writes its rows as bare words, without a header, to the file OUT, or to standard output where OUT is -.
-FORMAT and N are those of IN; see ./fryskelom --help. OUT is written whole or not at all: where IN is refused or a row cannot be written,
-OUT stays as it was.
-
-{held}
-The rows have to be in the order of time, and at most 16777216.
-",
-        converting()
-    )
+"
+        .to_string(),
+        paragraph(
+            "There is no kind 5. USB packets among EVT2 words give no row. Camera 0 is the only one or a master, camera 1 a slave on the master's clock, which \
+             EVT3 words alone can have.",
+        ),
+        option(
+            "--events",
+            "the same in words, with the time as one number, IMU readings in g, degrees a second and degrees Celsius, and a mark where a time is out of order: \
+             earlier than one before it. The point in a reading is a decimal point, with six decimals after it.",
+        ),
+        option(
+            "--columns NAMES",
+            &format!(
+                "other numbers in place of the ten, with commas between their names: {}. time_us is the time as one number; - stands where an event has no \
+                 such number.",
+                listed(columns::names(), "", "and")
+            ),
+        ),
+        option("--header", "the names of the columns above them"),
+        "\n".to_string(),
+        COMBINED.to_string(),
+        filters(),
+        "\nTo time a relay:\n\n".to_string(),
+        option(
+            "--since EDGE",
+            "adds a column, since_us: the time since the last edge of a trigger, by time, whether or not the trigger passes the filters. EDGE is trigger, for \
+             rising edges of any channel, or trigger:CHANNEL, trigger:falling, trigger:CHANNEL:falling. - stands before the first edge.",
+        ),
+        option(
+            "--bins MICROSECONDS",
+            "in place of rows, how many events there are in each bin of so many microseconds: the time at which it begins, the time since the edge with \
+             --since, and the number. Bins without events are left out. Bins are counted from the last edge with --since, else from T of --from or from 0.",
+        ),
+        "\n".to_string(),
+        paragraph("If the recording is refused, the rows before are printed; the refusal follows on standard error, and the status is 1."),
+        recording(FORCED),
+    ]
+    .concat()
 }
 
-pub const REFUSALS: &str = "\
-./fryskelom refusals
+pub fn convert() -> String {
+    let held = written().map(|(name, words)| option(&format!("--to {name}"), &format!("holds {}", words.holds)));
+    [
+        format!("{} {} [options]\n\n", called(), converting()),
+        paragraph(
+            "Reads the recording IN and writes its rows as bare words, without a header, to the file OUT, or to standard output where OUT is -. A file is \
+             written whole or not at all: where IN is refused or a row cannot be written, OUT stays as it was.",
+        ),
+        held.collect(),
+        "\n".to_string(),
+        paragraph("The rows have to be in the order of time, and at most 16777216."),
+        COMBINED.to_string(),
+        filters(),
+        "\n".to_string(),
+        recording(&format!("replaces OUT where it is there already, but nothing that is write-protected, and never IN itself; {FORCED}")),
+    ]
+    .concat()
+}
 
-Prints the numbers of all refusals, what was found, and what to do. There is no refusal 7: it was that of a slave camera, which is read now.
-";
+/// The options of every command that reads a recording.
+fn recording(forced: &str) -> String {
+    format!("The recording:\n\n{}", source(forced))
+}
+
+pub fn refusals() -> String {
+    let text = "Prints the numbers of all refusals, what was found, and what to do. There is no refusal 7: it was that of a slave camera, which is read now.";
+    format!("{} refusals\n\n{}", called(), wrapped("", text))
+}

@@ -1,28 +1,31 @@
 //! `info`: what a recording holds.
 use super::arguments::Source;
-use super::events::KINDS;
+use super::events::{self, KINDS};
 use super::progress::Progress;
-use super::recording::{time_of, Reading, Recording};
+use super::recording::{Input, Reading, Recording};
+use super::view::{Item, View};
 use super::{header, output, Failure};
-use fryskelom::MOST_BYTES;
+use fryskelom::{kind, MOST_BYTES};
+
+/// So many triggers are listed from the first one on, and so many up to the last.
+const TRIGGERS: usize = 100;
 
 /// Prints format, size, header, picture, events and times of a recording, and then its refusal.
-pub fn print(source: &Source) -> Result<(), Failure> {
-    let mut progress = Progress::new();
-    let recording = Recording::load(source, &mut progress)?;
-    let reading = recording.read(&mut progress);
-    let lines = [about_file(&recording), header::lines(&recording, reading.stop), about_rows(&recording, &reading)].concat();
+pub fn print(source: &Source, view: &View) -> Result<(), Failure> {
+    let progress = Progress::new();
+    let recording = Input::open(source)?.load(source, &progress)?;
+    let reading = recording.read(&progress);
+    progress.stage("counting", "rows");
+    progress.done(reading.rows());
+    let lines = [about_file(&recording), header::lines(&recording, reading.stop), about_rows(&recording, &reading, view)].concat();
     drop(progress);
     output::write((lines.join("\n") + "\n").as_bytes())?;
     reading.end(&recording)
 }
 
 fn about_file(recording: &Recording) -> Vec<String> {
-    let size = match recording.bytes.len() {
-        // no more was read
-        size if size > MOST_BYTES => format!("over {MOST_BYTES}"),
-        size => size.to_string(),
-    };
+    // where it is not known, no more was read
+    let size = recording.length.map_or(format!("over {MOST_BYTES}"), |length| length.to_string());
     vec![
         format!("file: {}", recording.name),
         format!("format: {} ({})", recording.format.title, recording.format.name),
@@ -30,35 +33,78 @@ fn about_file(recording: &Recording) -> Vec<String> {
     ]
 }
 
-fn about_rows(recording: &Recording, reading: &Reading) -> Vec<String> {
-    let summary = Summary::of(reading.numbers());
+fn about_rows(recording: &Recording, reading: &Reading, view: &View) -> Vec<String> {
+    let summary = Summary::of(view.items(reading.numbers()));
     let part = if reading.stop.is_some() { " before the reading stopped" } else { "" };
-    let mut lines = vec![format!("events: {}{part}", reading.rows())];
+    let mut lines = match view.selection.is_any() {
+        true => vec![format!("events: {} of {}{part}, by the filters that were given", summary.count, reading.rows())],
+        false => vec![format!("events: {}{part}", summary.count)],
+    };
     lines.extend(summary.kinds());
     lines.extend(summary.times());
+    lines.push(format!("times out of order: {}", summary.behind));
     lines.extend(recording.format.wrap.map(|wrap| summary.wraps(wrap)));
+    lines.extend(view.since.as_ref().map(|since| format!("time since the last {}: {}", since.title(), summary.since())));
+    lines.extend(view.bins.iter().flat_map(|&microseconds| about_bins(view, microseconds, reading.numbers())));
+    lines.extend(triggers(view, reading.numbers()));
     lines
 }
 
-/// How many rows there are of each kind, by its number, how many pixels of each camera, and the smallest and the largest time.
+/// How many bins hold events, and the first one that holds the most.
+fn about_bins(view: &View, microseconds: u64, numbers: &[u32]) -> Vec<String> {
+    let bins = view.filled(microseconds, numbers);
+    let mut lines = vec![format!("bins of {microseconds} µs that hold events: {}", bins.len())];
+    // the last of those that are alike would be taken, so from the end
+    if let Some((start, bin)) = bins.iter().rev().max_by_key(|(_, bin)| bin.count) {
+        let since = bin.edge.map_or(String::new(), |edge| format!(", {} µs after {}", start - edge.time, edge.title()));
+        lines.push(format!("    most events in one: {}, from {start} µs on{since}", bin.count));
+    }
+    lines
+}
+
+/// The triggers, or the first and the last of them where they are many.
+fn triggers(view: &View, numbers: &[u32]) -> Vec<String> {
+    let triggers: Vec<Item> = view.items(numbers).filter(|item| item.row[0] == kind::TRIGGER).collect();
+    let line = |item: &Item| format!("    {}", events::line_of(item, false));
+    let list = |items: &[Item]| items.iter().map(line).collect::<Vec<_>>();
+    let listed = match triggers.len().checked_sub(2 * TRIGGERS) {
+        Some(hidden @ 1..) => {
+            let [first, last] = [&triggers[..TRIGGERS], &triggers[triggers.len() - TRIGGERS..]].map(list);
+            [first, vec![format!("    and {hidden} more, up to the last {TRIGGERS}:")], last].concat()
+        }
+        _ => list(&triggers),
+    };
+    [vec![format!("triggers: {}", triggers.len())], listed].concat()
+}
+
+/// How many events there are of each kind, by its number, how many pixels of each camera, how many whose times are out of order, the smallest and the
+/// largest time and time since an edge.
 #[derive(Default)]
 struct Summary {
+    count: usize,
     kinds: [usize; 7],
     cameras: [usize; 2],
+    behind: usize,
     times: Option<(u64, u64)>,
+    since: Option<(u64, u64)>,
+    before_edges: usize,
 }
 
 impl Summary {
-    fn of(numbers: &[u32]) -> Summary {
+    fn of<'a>(items: impl Iterator<Item = Item<'a>>) -> Summary {
         let mut summary = Summary::default();
-        for row in numbers.chunks_exact(10) {
+        for Item { row, time, behind, edge } in items {
+            summary.count += 1;
             summary.kinds[row[0] as usize] += 1;
-            if row[0] == 1 {
+            if row[0] == kind::PIXEL {
                 summary.cameras[row[6] as usize] += 1;
             }
-            let time = time_of(row);
-            let (first, last) = summary.times.unwrap_or((time, time));
-            summary.times = Some((first.min(time), last.max(time)));
+            summary.behind += usize::from(behind > 0);
+            summary.times = widened(summary.times, time);
+            match edge {
+                Some(edge) => summary.since = widened(summary.since, time - edge.time),
+                None => summary.before_edges += 1,
+            }
         }
         summary
     }
@@ -68,7 +114,7 @@ impl Summary {
         let mut lines = vec![];
         for (kind, name) in KINDS {
             lines.push(format!("    {name}: {}", self.kinds[kind as usize]));
-            if kind == 1 && self.cameras[1] > 0 {
+            if kind == kind::PIXEL && self.cameras[1] > 0 {
                 lines.extend(self.cameras.iter().enumerate().map(|(camera, count)| format!("        of camera {camera}: {count}")));
             }
         }
@@ -93,4 +139,17 @@ impl Summary {
         };
         format!("clock wraps: {wraps}; the clock wraps every {wrap} µs")
     }
+
+    fn since(&self) -> String {
+        match self.since {
+            Some((least, most)) => format!("{least} to {most} µs; events before any such edge: {}", self.before_edges),
+            None => format!("none; events before any such edge: {}", self.before_edges),
+        }
+    }
+}
+
+/// The smallest and the largest of some numbers and one more.
+fn widened(range: Option<(u64, u64)>, number: u64) -> Option<(u64, u64)> {
+    let (least, most) = range.unwrap_or((number, number));
+    Some((least.min(number), most.max(number)))
 }

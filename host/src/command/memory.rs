@@ -11,7 +11,7 @@ impl Lack {
         format!(
             "not enough memory: the system refused {} bytes for {what}\n\
              {name} is too large to be read in one piece on this machine; {state}\n\
-             what to do: split the recording, or use a machine with more memory",
+             what to do: use a machine with more memory, or record in shorter parts",
             self.0
         )
     }

@@ -1,5 +1,7 @@
 //! The command's parts. Bytes are handed to the library and what comes back is printed: nothing here decides what a recording holds.
 mod arguments;
+mod claims;
+mod columns;
 mod convert;
 mod events;
 mod formats;
@@ -7,13 +9,19 @@ mod header;
 mod help;
 mod info;
 mod memory;
-mod new_file;
+mod names;
 mod options;
+mod out;
 mod output;
 mod progress;
 mod recording;
 mod refusals;
 mod rows;
+mod selection;
+mod signals;
+mod since;
+mod standard;
+mod view;
 
 use arguments::Request;
 use std::ffi::OsString;
@@ -23,18 +31,30 @@ use std::process::ExitCode;
 pub enum Failure {
     /// The arguments ask for nothing that there is.
     Usage(String),
+    /// What was asked for could do harm. The message says what to do.
+    Declined(String),
     /// A refusal, or a file or memory that was not to be had.
     Failed(String),
     /// Nobody reads standard output any more.
     Unread,
 }
 
-/// Does what the arguments ask for; the status is 0, 1 where it failed and 2 where the arguments are wrong.
+impl From<String> for Failure {
+    fn from(usage: String) -> Failure {
+        Failure::Usage(usage)
+    }
+}
+
+/// Does what the arguments ask for; the status is 0, 1 where it failed and 2 where the arguments are wrong or what they ask for is declined.
 pub fn run(arguments: &[OsString]) -> ExitCode {
     match arguments::request(arguments).and_then(carry_out) {
         Ok(()) => ExitCode::SUCCESS,
         Err(Failure::Usage(message)) => {
-            output::tell(&format!("{message}\ntry ./fryskelom --help"));
+            output::tell(&format!("{message}\ntry {} --help", names::called()));
+            ExitCode::from(2)
+        }
+        Err(Failure::Declined(message)) => {
+            output::tell(&message);
             ExitCode::from(2)
         }
         Err(Failure::Failed(message)) => {
@@ -47,10 +67,11 @@ pub fn run(arguments: &[OsString]) -> ExitCode {
 }
 
 fn carry_out(request: Request) -> Result<(), Failure> {
+    output::is_there()?;
     match request {
         Request::Print(text) => output::write(text.as_bytes()),
-        Request::Info(source) => info::print(&source),
-        Request::Rows(source, as_events) => rows::print(&source, as_events),
-        Request::Convert(source, target, out) => convert::convert(&source, target, &out),
+        Request::Info(source, view) => info::print(&source, &view),
+        Request::Rows(source, view, lines) => rows::print(&source, &view, &lines),
+        Request::Convert(source, selection, target, out) => convert::convert(&source, &selection, target, &out),
     }
 }

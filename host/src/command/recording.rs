@@ -2,12 +2,16 @@
 use super::arguments::Source;
 use super::formats::{Asked, Format};
 use super::memory::{zeros, Lack};
+use super::names::shown;
 use super::progress::Progress;
-use super::{refusals, Failure};
-use fryskelom::{Fault, Refusal, MOST_BYTES};
-use std::fs::File;
+use super::selection::Selection;
+use super::{claims, refusals, standard, Failure};
+use fryskelom::{Fault, Refusal, MOST_BYTES, ROW_NUMBERS};
+use std::ffi::OsStr;
+use std::fs::{File, Metadata};
 use std::hint::black_box;
-use std::io::{self, Read};
+use std::io::{self, Read, Seek};
+use std::os::unix::fs::MetadataExt;
 
 /// How much of a file is read at once.
 const PIECE: usize = 4 << 20;
@@ -20,7 +24,10 @@ pub struct Recording {
     pub name: String,
     pub format: &'static Format,
     pub asked: Asked,
+    /// Nothing where a file's length alone tells that it is refused.
     pub bytes: Vec<u8>,
+    /// How many bytes there are; not known of a stream that is longer than any input that is read.
+    pub length: Option<u64>,
 }
 
 /// The rows finished, ten numbers each, and why there are no more.
@@ -38,34 +45,88 @@ pub enum Stop {
     Full(Lack),
 }
 
-impl Recording {
-    /// Reads a file, or standard input, into memory.
-    pub fn load(source: &Source, progress: &mut Progress) -> Result<Recording, Failure> {
-        let mut recording = Recording { name: name_of(source), format: source.format, asked: source.asked, bytes: vec![] };
-        if source.path == "-" {
-            recording.fill(io::stdin().lock(), 0, progress)?;
-        } else {
-            let file = File::open(&source.path).map_err(|error| recording.unreadable(&error))?;
-            let length = file.metadata().map_or(0, |metadata| metadata.len());
-            recording.fill(file, length, progress)?;
+/// The file of a recording, or standard input, before anything of it is read.
+pub struct Input {
+    name: String,
+    file: File,
+    metadata: Metadata,
+}
+
+impl Input {
+    pub fn open(source: &Source) -> Result<Input, Failure> {
+        let name = name_of(&source.path);
+        let opened = match source.path == "-" {
+            true => standard::input(),
+            false => File::open(&source.path),
+        };
+        let opened = opened.and_then(|file| Ok((file.metadata()?, file)));
+        let (metadata, file) = opened.map_err(|error| unreadable(&name, &error))?;
+        let input = Input { name, file, metadata };
+        if standard::output().and_then(|output| output.metadata()).is_ok_and(|output| input.is(&output)) {
+            return Err(Failure::Declined(format!("{} is where standard output goes: the recording would be changed, so nothing was done", input.name)));
+        }
+        Ok(input)
+    }
+
+    /// Whether this is the same file, whatever its names are.
+    pub fn is(&self, other: &Metadata) -> bool {
+        self.metadata.is_file() && (self.metadata.dev(), self.metadata.ino()) == (other.dev(), other.ino())
+    }
+
+    /// How many bytes there are to be read, where a file says it.
+    fn length(&mut self) -> Option<u64> {
+        // standard input may have been read by another program before
+        let read = self.file.stream_position().unwrap_or(0);
+        self.metadata.is_file().then(|| self.metadata.len().saturating_sub(read))
+    }
+
+    /// Reads it into memory, unless its length tells that it is refused.
+    pub fn load(mut self, source: &Source, progress: &Progress) -> Result<Recording, Failure> {
+        let length = self.length();
+        let Input { name, file, .. } = self;
+        let mut recording = Recording { name, format: source.format, asked: source.asked, bytes: vec![], length };
+        if length.is_none_or(|length| length <= MOST_BYTES as u64) {
+            recording.fill(file, source.force, progress)?;
         }
         Ok(recording)
     }
+}
 
-    /// Takes all bytes of an input that is probably so long, up to the longest one that is read and a byte more, which the library refuses (1).
-    fn fill(&mut self, mut input: impl Read, length: u64, progress: &mut Progress) -> Result<(), Failure> {
-        let length = usize::try_from(length).map_or(MOST_BYTES, |length| length.min(MOST_BYTES));
+impl Recording {
+    /// Whether it is longer than any input that is read.
+    pub fn is_too_long(&self) -> bool {
+        self.length.is_none_or(|length| length > MOST_BYTES as u64)
+    }
+
+    /// Takes all bytes, up to the longest input that is read and a byte more.
+    fn fill(&mut self, mut input: File, force: bool, progress: &Progress) -> Result<(), Failure> {
+        progress.stage("reading", "bytes");
         // a piece more, so that the end is found without another buffer
-        self.reserve(length + PIECE)?;
+        self.reserve(self.length.map_or(0, |length| length as usize) + PIECE)?;
         loop {
             let piece = PIECE.min(MOST_BYTES + 1 - self.bytes.len());
             self.reserve(piece)?;
-            let read = input.by_ref().take(piece as u64).read_to_end(&mut self.bytes).map_err(|error| self.unreadable(&error))?;
+            let read = input.by_ref().take(piece as u64).read_to_end(&mut self.bytes).map_err(|error| unreadable(&self.name, &error))?;
+            if self.bytes.len() == read {
+                self.looked_at(force, progress)?;
+            }
             if read == 0 {
+                // a file that has grown meanwhile is as long as what was read
+                self.length = (self.bytes.len() <= MOST_BYTES).then_some(self.bytes.len() as u64);
                 return Ok(());
             }
-            progress.read(self.bytes.len());
+            progress.done(self.bytes.len());
         }
+    }
+
+    /// Holds what the file says of its own format against the one that was named.
+    fn looked_at(&self, force: bool, progress: &Progress) -> Result<(), Failure> {
+        match claims::contradiction(&self.bytes, self.format) {
+            Some(claim) if force => progress.note(&format!("note: {}; it is read as {}, since --force is given", claim.quoted(), self.format.name)),
+            Some(claim) => return Err(Failure::Declined(format!("{}: {}", self.name, claim.against(self.format)))),
+            None => {}
+        }
+        Ok(())
     }
 
     fn reserve(&mut self, bytes: usize) -> Result<(), Failure> {
@@ -73,13 +134,14 @@ impl Recording {
         self.bytes.try_reserve(bytes).map_err(|_| Failure::Failed(lack.message("the file", &self.name, "no rows were read")))
     }
 
-    fn unreadable(&self, error: &io::Error) -> Failure {
-        Failure::Failed(format!("cannot read {}: {error}", self.name))
-    }
-
     /// Reads all rows. The buffer for them grows until they fit, or as long as there is memory.
-    pub fn read(&self, progress: &mut Progress) -> Reading {
-        progress.stage(&format!("decoding {} bytes", self.bytes.len()));
+    pub fn read(&self, progress: &Progress) -> Reading {
+        progress.stage("decoding", "bytes");
+        progress.done(self.bytes.len());
+        if self.is_too_long() {
+            let fault = Fault { refusal: Refusal::TOO_LONG, rows: 0, place: 0 };
+            return Reading { numbers: vec![], rows: 0, stop: Some(Stop::Refused(fault)) };
+        }
         // untouched, and given back at the end; the compiler would leave out what nobody looks at
         let _spare = match zeros::<u8>(SPARE) {
             Ok(spare) => black_box(spare),
@@ -92,8 +154,8 @@ impl Recording {
                 Ok(rows) => return Reading { numbers, rows, stop: None },
                 Err(fault) => fault,
             };
-            let room = numbers.len() / 10;
-            if fault.refusal != NO_ROOM || room >= most {
+            let room = numbers.len() / ROW_NUMBERS;
+            if fault.refusal != Refusal::NO_ROOM || room >= most {
                 return Reading { numbers, rows: fault.rows, stop: Some(Stop::Refused(fault)) };
             }
             // the full buffer is given up only when the larger one is there: if that is refused, its rows are still wanted
@@ -105,12 +167,9 @@ impl Recording {
     }
 }
 
-/// What the library answers where rows do not fit.
-const NO_ROOM: Refusal = Refusal(2);
-
 /// Room for so many rows.
 fn rows_of(room: usize) -> Result<Vec<u32>, Lack> {
-    zeros(room.saturating_mul(10))
+    zeros(room.saturating_mul(ROW_NUMBERS))
 }
 
 /// Room for so many rows, or for a part of them where memory is refused.
@@ -118,28 +177,46 @@ fn largest(room: usize) -> Vec<u32> {
     rows_of(room).unwrap_or_else(|_| largest(room / 2))
 }
 
-fn name_of(source: &Source) -> String {
-    match source.path == "-" {
+/// What messages call a file, or standard input.
+pub fn name_of(path: &OsStr) -> String {
+    match path == "-" {
         true => "standard input".to_string(),
-        false => source.path.display().to_string(),
+        false => shown(path),
     }
+}
+
+/// What is said of a file that cannot be read.
+pub fn unreadable(name: &str, error: &io::Error) -> Failure {
+    Failure::Failed(format!("cannot read {name}: {error}"))
 }
 
 impl Reading {
     /// The finished rows, one after the other.
     pub fn numbers(&self) -> &[u32] {
-        &self.numbers[..10 * self.rows]
+        &self.numbers[..ROW_NUMBERS * self.rows]
     }
 
     pub fn rows(&self) -> usize {
         self.rows
     }
 
+    /// Leaves those rows alone that pass the filters.
+    pub fn select(&mut self, selection: &Selection) {
+        let mut kept = 0;
+        for row in 0..self.rows {
+            if selection.holds(&self.numbers[ROW_NUMBERS * row..][..ROW_NUMBERS]) {
+                self.numbers.copy_within(ROW_NUMBERS * row..ROW_NUMBERS * (row + 1), ROW_NUMBERS * kept);
+                kept += 1;
+            }
+        }
+        self.rows = kept;
+    }
+
     /// Fails where the reading stopped, and says so.
     pub fn end(&self, recording: &Recording) -> Result<(), Failure> {
         match self.stop {
             None => Ok(()),
-            Some(Stop::Refused(fault)) => Err(Failure::Failed(refusals::reading(&fault, &recording.name))),
+            Some(Stop::Refused(fault)) => Err(Failure::Failed(refusals::reading(&fault, recording))),
             Some(Stop::Full(lack)) => Err(Failure::Failed(lack.message("rows", &recording.name, &refusals::finished(self.rows)))),
         }
     }

@@ -1,120 +1,144 @@
-//! The refusals in plain words, and the messages that are made of them.
+//! What to do about each refusal, and the messages that are made of it. What was found is the library's text.
 use super::events;
-use fryskelom::{Fault, Refusal, RowFault, MOST_ROWS, REFUSALS};
+use super::formats::{capitals, written, Head};
+use super::help::wrapped;
+use super::recording::{time_of, Recording};
+use fryskelom::{read_header, Fault, Refusal, RowFault, MOST_ROWS, ROW_NUMBERS};
 
-/// What was found, and what to do where a recording is read and where rows are written; empty where it is not refused so.
+/// What to do where a recording is read, and where rows are written; empty where it is not refused so.
 struct Rule {
-    number: u64,
-    found: &'static str,
+    refusal: Refusal,
+    /// Whether a format that was named wrongly is the first thing to look for.
+    wrong_format: bool,
     reading: &'static str,
+    /// What else, where rows were finished before the fault.
+    with_rows: &'static str,
     writing: &'static str,
 }
 
-/// One for each number. 7 was that of a slave camera's bit, and no other refusal ever gets it.
-const RULES: [Rule; REFUSALS.len()] = [
+/// One for each refusal. What is left out is empty.
+const RULES: [Rule; Refusal::ALL.len()] = [
     Rule {
-        number: 1,
-        found: "the input is longer than 1073741824 bytes",
-        reading: "split the recording, or record in shorter parts",
-        writing: "",
+        reading: "record in shorter parts, or cut the recording by time with a program of the camera's maker, as metavision_file_cutter cuts RAW files",
+        ..rule(Refusal::TOO_LONG)
     },
     Rule {
-        number: 2,
-        found: "rows or bytes do not fit the buffer",
-        reading: "split the recording; a program that calls the library lends it a larger buffer",
+        reading: "a program that calls the library lends a larger buffer: its documents say how large is always enough",
         writing: "lend a larger buffer; nothing has been written",
+        ..rule(Refusal::NO_ROOM)
     },
     Rule {
-        number: 3,
-        found: "a word of a reserved type",
-        reading: "check that the format named with --format is the recording's; if it is, the file is damaged at this place",
-        writing: "",
+        wrong_format: true,
+        reading: "the file is damaged at this place: copy it again from the camera",
+        with_rows: "or use the rows before it",
+        ..rule(Refusal::RESERVED)
     },
     Rule {
-        number: 4,
-        found: "the input ends inside a word, group, event, packet or header",
-        reading: "the file is cut: copy it again from the camera; the rows before this place are good",
-        writing: "",
+        reading: "the file is cut: copy it again from the camera",
+        with_rows: "the rows before this place are good",
+        ..rule(Refusal::CUT)
     },
     Rule {
-        number: 5,
-        found: "a time goes back, is negative or passes the limit",
-        reading: "the camera's clock or cable, or the file, is damaged at this place or just before it: use no time after it, and do not rely on the \
-                  last ones before it; try another cable and record again",
-        writing: "rows are written in the order of time alone, and those of this recording are not in it: use them as ./fryskelom rows prints them",
+        reading: "the camera's clock or cable, or the file, is damaged at this place or just before it: use no time after it; try another cable and record again",
+        with_rows: "do not rely on the last times before it",
+        writing: "rows are written in the order of time alone, and those of this recording are not in it: use them as `rows` prints them",
+        ..rule(Refusal::BAD_TIME)
+    },
+    Rule { wrong_format: true, reading: "check the width and height that were given or that the header says", ..rule(Refusal::OUTSIDE) },
+    Rule {
+        wrong_format: true,
+        reading: "words were lost at this place: record again",
+        with_rows: "or use the rows before it",
+        ..rule(Refusal::STRAY)
     },
     Rule {
-        number: 6,
-        found: "a pixel outside the picture, or a polarity over 1",
-        reading: "check the width and height that were given or that the header says, and the format",
-        writing: "",
+        reading: "check first that the format is right; if it is, look at the line at this place: widths and heights are whole numbers without comma or \
+                  point, each said once",
+        ..rule(Refusal::BAD_HEADER)
     },
     Rule {
-        number: 8,
-        found: "a word inside an IMU group does not continue it",
-        reading: "words were lost at this place: record again, or use the rows before it",
-        writing: "",
+        reading: "the file is damaged at this place: copy it again from the camera",
+        with_rows: "or use the rows before it",
+        ..rule(Refusal::BAD_PACKET)
     },
     Rule {
-        number: 9,
-        found: "a bad text header, or a bad type or size after it",
-        reading: "look at the line at this place; widths and heights are whole numbers without comma or point, each said once; check the format too",
-        writing: "",
+        reading: "times after this place count from another zero: record again",
+        with_rows: "or use the rows before it",
+        ..rule(Refusal::CLOCK_RESET)
     },
-    Rule {
-        number: 10,
-        found: "a bad AEDAT packet",
-        reading: "the file is damaged at this place: copy it again from the camera, or use the rows before it",
-        writing: "",
-    },
-    Rule {
-        number: 11,
-        found: "the camera's clock was reset",
-        reading: "use the rows before this place, or record again: times after it count from another zero",
-        writing: "",
-    },
-    Rule {
-        number: 12,
-        found: "a bad row, or one that the format cannot write",
-        reading: "",
-        writing: "try the other words, or use the rows as ./fryskelom rows prints them: EVT2 holds pixels of camera 0 alone, below 2048 by 2048, triggers and \
-                  IMU counts, EVT3 pixels of cameras 0 and 1, below 2048 by 2048, and triggers of channels 0 to 15",
-    },
-    Rule {
-        number: 13,
-        found: "a list whose length is no multiple of ten, or over 16777216 rows",
-        reading: "",
-        writing: "split the recording, or record in shorter parts",
-    },
-    Rule {
-        number: 14,
-        found: "a picture width or height of 0 or over 2048",
-        reading: "give --width and --height from 1 to 2048, or leave them out",
-        writing: "",
-    },
+    Rule { writing: "write other words, leave such rows out by --kind, --region or --camera, or use the rows as `rows` prints them", ..rule(Refusal::BAD_ROW) },
+    Rule { writing: "write it in parts by time, to a file each: --until T for the first, then --from T", ..rule(Refusal::BAD_LIST) },
+    Rule { reading: "give a width and a height from 1 to 2048, or leave them out", ..rule(Refusal::BAD_PICTURE) },
 ];
 
+const fn rule(refusal: Refusal) -> Rule {
+    Rule { refusal, wrong_format: false, reading: "", with_rows: "", writing: "" }
+}
+
+fn rule_of(refusal: Refusal) -> &'static Rule {
+    RULES.iter().find(|rule| rule.refusal == refusal).expect("a rule for every refusal that the library answers")
+}
+
 /// A reader's refusal.
-pub fn reading(fault: &Fault, name: &str) -> String {
+pub fn reading(fault: &Fault, recording: &Recording) -> String {
     let Fault { refusal, rows, place } = *fault;
-    message(refusal, &format!("at byte {place} of {name} (counted from 0); {} before it", finished(rows)), |rule| rule.reading)
+    let Rule { wrong_format, reading, with_rows, .. } = rule_of(refusal);
+    let format = recording.format;
+    let advice = match (refusal, wrong_format) {
+        (Refusal::BAD_HEADER, _) => of_header(place, recording),
+        (_, true) => format!("check first that the format is right: it was read as {} ({}); if it is right, {reading}", format.name, format.title),
+        (_, false) => reading.to_string(),
+    };
+    let also = if rows > 0 && !with_rows.is_empty() { format!("; {with_rows}") } else { String::new() };
+    message(refusal, &format!("at byte {place} of {} (counted from 0); {} before it", recording.name, finished(rows)), &format!("{advice}{also}"))
+}
+
+/// What to do about a header: what has to stand at this place, and what stands there.
+fn of_header(place: usize, recording: &Recording) -> String {
+    let bytes = &recording.bytes;
+    match recording.format.head {
+        Head::Text(limit) if read_header(bytes, limit).is_ok() => format!(
+            "check first that it is a DAT file; after its header have to stand the bytes 0 and 8, the type and the size of its events, and there stand {} and {}",
+            bytes[place],
+            bytes[place + 1]
+        ),
+        Head::Aedat => "check first that it is an AEDAT 3.1 file; its lines are #!AER-DAT3.1, then #Format: RAW, then others that begin with #, then \
+                        #!END-HEADER, and each ends in CR LF"
+            .to_string(),
+        _ => rule_of(Refusal::BAD_HEADER).reading.to_string(),
+    }
 }
 
 /// A writer's refusal of the rows of a recording.
 pub fn writing(fault: &RowFault, name: &str, numbers: &[u32]) -> String {
     let RowFault { refusal, row } = *fault;
-    let place = match refusal {
+    let Rule { writing, .. } = rule_of(refusal);
+    let row_of = |row: usize| &numbers[ROW_NUMBERS * row..][..ROW_NUMBERS];
+    let (place, advice) = match refusal {
         // no row is at fault
-        Refusal(13) => format!("{name} has {} rows, and at most {MOST_ROWS} can be written", numbers.len() / 10),
-        _ => format!("at row {row} of {name} (counted from 0): {}", events::line(&numbers[10 * row..][..10])),
+        Refusal::BAD_LIST => (
+            format!("{name} has {} rows, and at most {MOST_ROWS} can be written", numbers.len() / ROW_NUMBERS),
+            format!("{writing}, such as T {}", time_of(row_of(MOST_ROWS))),
+        ),
+        Refusal::BAD_ROW => (at(row, name, row_of(row)), format!("{writing}: {}", held())),
+        _ => (at(row, name, row_of(row)), writing.to_string()),
     };
-    message(refusal, &format!("{place}; nothing was written"), |rule| rule.writing)
+    message(refusal, &format!("{place}; nothing was written"), &advice)
+}
+
+fn at(index: usize, name: &str, row: &[u32]) -> String {
+    format!("at row {index} of {name} (counted from 0): {}", events::line(row))
+}
+
+/// What words hold.
+fn held() -> String {
+    let held = written().map(|(name, words)| format!("{} holds {}", capitals([name].into_iter()), words.holds));
+    held.collect::<Vec<_>>().join("; ")
 }
 
 /// The number, plain words, the place, and what to do.
-fn message(Refusal(number): Refusal, place: &str, advice: fn(&Rule) -> &str) -> String {
-    let rule = RULES.iter().find(|rule| rule.number == number).expect("a rule for every number that the library answers");
-    format!("refused {number}: {}\n{place}\nwhat to do: {}", rule.found, advice(rule))
+fn message(refusal: Refusal, place: &str, advice: &str) -> String {
+    format!("refused {}: {}\n{place}\nwhat to do: {advice}", refusal.0, refusal.text())
 }
 
 /// So many rows were finished.
@@ -127,15 +151,18 @@ pub fn finished(rows: usize) -> String {
 
 /// All refusals.
 pub fn table() -> String {
-    RULES.iter().map(|rule| format!("{:>2}  {}\n{}", rule.number, rule.found, rule.advice())).collect()
+    RULES.iter().map(|rule| wrapped(&format!("{:>2}  ", rule.refusal.0), rule.refusal.text()) + &rule.advice()).collect()
 }
 
 impl Rule {
     /// What to do, in lines of their own.
     fn advice(&self) -> String {
-        match (self.reading, self.writing) {
-            (advice, "") | ("", advice) => format!("    what to do: {advice}\n"),
-            (reading, writing) => format!("    what to do when reading: {reading}\n    what to do when writing: {writing}\n"),
+        let first = if self.wrong_format { "check first that the format is right; if it is, " } else { "" };
+        let also = if self.with_rows.is_empty() { "" } else { "; " };
+        let reading = format!("{first}{}{also}{}", self.reading, self.with_rows);
+        match (reading.as_str(), self.writing) {
+            (advice, "") | ("", advice) => wrapped("    what to do: ", advice),
+            (reading, writing) => wrapped("    what to do when reading: ", reading) + &wrapped("    what to do when writing: ", writing),
         }
     }
 }

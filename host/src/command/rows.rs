@@ -1,60 +1,101 @@
-//! `rows`: the rows of a recording as lines of text.
+//! `rows`: the rows of a recording as lines of text, or how many there are in each bin.
 use super::arguments::Source;
+use super::columns::{add_cell, Column};
 use super::progress::Progress;
-use super::recording::Recording;
-use super::{events, output, Failure};
+use super::recording::Input;
+use super::view::{Item, View};
+use super::{events, header, output, Failure};
 
-/// So many rows are written to standard output at once.
-const ROWS_AT_ONCE: usize = 16_384;
+/// Lines are written to standard output when they have so many bytes together.
+const BYTES_AT_ONCE: usize = 1 << 18;
 
-/// Prints the rows of a recording, as they are or as events.
-pub fn print(source: &Source, as_events: bool) -> Result<(), Failure> {
-    let mut progress = Progress::new();
-    let recording = Recording::load(source, &mut progress)?;
-    let reading = recording.read(&mut progress);
+/// What a line holds.
+pub enum Lines {
+    /// Numbers with a space between, and whether their names stand above them.
+    Columns(Vec<Column>, bool),
+    Events,
+    /// The time at which a bin begins and the number of its events, and whether the names of these stand above them.
+    Bins(u64, bool),
+}
+
+/// Prints those rows of a recording that are looked at.
+pub fn print(source: &Source, view: &View, lines: &Lines) -> Result<(), Failure> {
+    let progress = Progress::new();
+    let recording = Input::open(source)?.load(source, &progress)?;
+    let reading = recording.read(&progress);
+    header::note(&recording, &progress);
+    view.lack_of_edges(reading.numbers()).iter().for_each(|note| progress.note(note));
     progress.before_printing();
-    progress.stage(&format!("printing {} rows", reading.rows()));
-    print_lines(reading.numbers(), if as_events { add_event } else { add_numbers }, &mut progress)?;
+    progress.stage("printing", "lines");
+    let mut printer = Printer { text: vec![], lines: 0, progress: &progress };
+    match lines {
+        Lines::Columns(columns, named) => print_columns(view.items(reading.numbers()), columns, *named, &mut printer),
+        Lines::Events => view.items(reading.numbers()).try_for_each(|item| printer.line(|text| add_text(&events::line_of(&item, view.since.is_some()), text))),
+        Lines::Bins(microseconds, named) => print_bins(view, *microseconds, reading.numbers(), *named, &mut printer),
+    }?;
+    printer.flush()?;
+    drop(progress);
     reading.end(&recording)
 }
 
-fn print_lines(numbers: &[u32], add_line: fn(&[u32], &mut Vec<u8>), progress: &mut Progress) -> Result<(), Failure> {
-    let (mut text, mut printed) = (vec![], 0);
-    for stretch in numbers.chunks(10 * ROWS_AT_ONCE) {
-        text.clear();
-        stretch.chunks_exact(10).for_each(|row| add_line(row, &mut text));
-        output::write(&text)?;
-        printed += stretch.len() / 10;
-        progress.more(|| format!("printing {} rows: {printed}", numbers.len() / 10));
+fn print_columns<'a>(items: impl Iterator<Item = Item<'a>>, columns: &[Column], named: bool, printer: &mut Printer) -> Result<(), Failure> {
+    if named {
+        printer.line(|text| columns.iter().for_each(|column| add_text(column.name, text)))?;
+    }
+    for item in items {
+        printer.line(|text| columns.iter().for_each(|column| column.add(&item, text)))?;
     }
     Ok(())
 }
 
-fn add_event(row: &[u32], text: &mut Vec<u8>) {
-    text.extend_from_slice(events::line(row).as_bytes());
-    text.push(b'\n');
-}
-
-fn add_numbers(row: &[u32], text: &mut Vec<u8>) {
-    for &number in row {
-        add_number(number, text);
-        text.push(b' ');
+fn print_bins(view: &View, microseconds: u64, numbers: &[u32], named: bool, printer: &mut Printer) -> Result<(), Failure> {
+    let since = view.since.is_some();
+    if named {
+        let names: &[&str] = if since { &["time_us", "since_us", "events"] } else { &["time_us", "events"] };
+        printer.line(|text| names.iter().for_each(|name| add_text(name, text)))?;
     }
-    // in place of the last space
-    *text.last_mut().expect("a row has ten numbers") = b'\n';
+    for (start, bin) in view.filled(microseconds, numbers) {
+        printer.line(|text| {
+            add_cell(Some(start), text);
+            if since {
+                add_cell(bin.edge.map(|edge| start - edge.time), text);
+            }
+            add_cell(Some(bin.count as u64), text);
+        })?;
+    }
+    Ok(())
 }
 
-/// Adds a number in decimal. A recording has millions of rows, and formatting takes several times as long.
-fn add_number(mut number: u32, text: &mut Vec<u8>) {
-    let mut digits = [0; 10];
-    let mut first = digits.len();
-    loop {
-        first -= 1;
-        digits[first] = b'0' + (number % 10) as u8;
-        number /= 10;
-        if number == 0 {
-            break;
+/// Adds a text and a space.
+fn add_text(cell: &str, text: &mut Vec<u8>) {
+    text.extend_from_slice(cell.as_bytes());
+    text.push(b' ');
+}
+
+/// Lines on their way to standard output.
+struct Printer<'a> {
+    text: Vec<u8>,
+    lines: usize,
+    progress: &'a Progress,
+}
+
+impl Printer<'_> {
+    /// Adds a line whose cells each end with a space.
+    fn line(&mut self, add: impl FnOnce(&mut Vec<u8>)) -> Result<(), Failure> {
+        add(&mut self.text);
+        // in place of the last space
+        *self.text.last_mut().expect("a line is not empty") = b'\n';
+        self.lines += 1;
+        match self.text.len() < BYTES_AT_ONCE {
+            true => Ok(()),
+            false => self.flush(),
         }
     }
-    text.extend_from_slice(&digits[first..]);
+
+    fn flush(&mut self) -> Result<(), Failure> {
+        self.progress.done(self.lines);
+        output::write(&self.text)?;
+        self.text.clear();
+        Ok(())
+    }
 }

@@ -2,9 +2,7 @@
 use super::inputs::{self, evt2_words, evt3_words, two_cameras, EVT3_ROWS};
 use super::run::{files, folder, run, run_after, run_fed, run_on};
 use std::fs;
-use std::os::unix::fs::symlink;
 use std::path::{Path, PathBuf};
-use std::process::Command;
 use trials::samples::{aedat, dat, evt2, evt3, Numbers};
 
 #[test]
@@ -21,7 +19,7 @@ fn reading_back() {
     for (format, bytes) in inputs {
         let rows = run_on(&folder, &bytes, &["rows", "recording", "--format", format]).good();
         for words in ["evt2", "evt3"] {
-            run(&folder, &["convert", "recording", "out", "--format", format, "--to", words]).good();
+            run(&folder, &["convert", "recording", "out", "--format", format, "--to", words, "--force"]).good();
             let back = run(&folder, &["rows", "out", "--format", words]).good();
             assert!(back.stdout == rows.stdout, "{format} to {words}");
         }
@@ -48,7 +46,7 @@ fn cameras_read_back() {
 }
 
 /// The EVT2 words without the USB packet, and in the order of time: clock, trigger, IMU reading and pixel.
-fn in_order() -> Vec<u8> {
+pub fn in_order() -> Vec<u8> {
     let words = evt2_words();
     [&words[20..24], &words[28..], &words[24..28]].concat()
 }
@@ -58,10 +56,10 @@ const BACK: &str = "to read it back: --format";
 #[test]
 fn the_report() {
     let folder = folder("report");
-    let run_to = |words| run_on(&folder, &in_order(), &["convert", "recording", "a file", "--format=evt2", "--to", words]).good();
-    assert_eq!(run_to("evt2").text(), format!("a file: written; rows: 3, evt2 words: 9, bytes: 36\n{BACK} evt2\n"));
+    let run = run_on(&folder, &in_order(), &["convert", "recording", "a file", "--format=evt2", "--to", "evt2"]).good();
+    assert_eq!(run.text(), format!("a file: written; rows: 3, evt2 words: 9, bytes: 36\n{BACK} evt2\n"));
     assert_eq!(fs::read(folder.join("a file")).expect("it was written"), in_order());
-    let run = run_on(&folder, &evt3_words(), &["convert", "recording", "a file", "--format=evt3", "--to=evt3"]).good();
+    let run = run_on(&folder, &evt3_words(), &["convert", "recording", "a file", "--format=EVT3", "--to=Evt3", "--force"]).good();
     assert_eq!(run.text(), format!("a file: written; rows: 5, evt3 words: 12, bytes: 24\n{BACK} evt3\n"));
     assert_eq!(super::run::run(&folder, &["rows", "a file", "--format", "evt3"]).good().text(), EVT3_ROWS);
 }
@@ -86,7 +84,7 @@ fn standard_input_and_output() {
 fn no_rows() {
     let folder = folder("convert-no-rows");
     for words in ["evt2", "evt3"] {
-        let run = run_on(&folder, &[], &["convert", "recording", "out", "--format=evt2", "--to", words]).good();
+        let run = run_on(&folder, &[], &["convert", "recording", "out", "--format=evt2", "--to", words, "--force"]).good();
         assert!(run.text().starts_with(&format!("out: written; rows: 0, {words} words: 0, bytes: 0\n")), "{run:?}");
         assert_eq!(fs::read(folder.join("out")).expect("it was written"), []);
     }
@@ -101,22 +99,23 @@ fn the_most_words_for_a_row() {
         (&[0x8fff_ffff, 0x1fc0_0000], "evt3", "words: 2050, bytes: 4100"),
     ];
     for (recording, words, written) in cases {
-        let run = run_on(&folder, &evt2::bytes_of(recording), &["convert", "recording", "out", "--format", "evt2", "--to", words]).good();
+        let run = run_on(&folder, &evt2::bytes_of(recording), &["convert", "recording", "out", "--format", "evt2", "--to", words, "--force"]).good();
         assert_eq!(run.text(), format!("out: written; rows: 1, {words} {written}\n{BACK} {words}\n"));
     }
 }
 
 /// What to do about rows that the words asked for cannot hold.
-const OTHER_WORDS: &str = "what to do: try the other words, or use the rows as ./fryskelom rows prints them: EVT2 holds pixels of camera 0 alone, below \
-                           2048 by 2048, triggers and IMU counts, EVT3 pixels of cameras 0 and 1, below 2048 by 2048, and triggers of channels 0 to 15";
+const OTHER_WORDS: &str = "what to do: write other words, leave such rows out by --kind, --region or --camera, or use the rows as `rows` prints them: EVT2 holds \
+                           pixels of camera 0 alone, below 2048 by 2048, triggers of channels 0 to 31, IMU counts; EVT3 holds pixels of cameras 0 and 1, below \
+                           2048 by 2048, triggers of channels 0 to 15";
 
 /// A recording, its format, the words asked for, and the message.
 fn refused() -> [(Vec<u8>, &'static str, &'static str, String); 7] {
     let unwritable = "refused 12: a bad row, or one that the format cannot write";
-    let imu = "65 µs IMU counts acceleration x 1 y -2 z 0 g rotation x 1 y 0 z -0.007633588 °/s";
+    let imu = "65 µs IMU counts acceleration x 1.000000 y -2.000000 z 0.000000 g rotation x 1.000000 y 0.000000 z -0.007634 °/s";
     let back = "refused 5: a time goes back, is negative or passes the limit";
     let order =
-        "what to do: rows are written in the order of time alone, and those of this recording are not in it: use them as ./fryskelom rows prints them";
+        "what to do: rows are written in the order of time alone, and those of this recording are not in it: use them as `rows` prints them";
     let step_back = evt3::bytes_of(&[0x8001, 0x6002, 0xa001, 0x6001, 0xa000]);
     let special = [aedat::START, aedat::END, &aedat::packet(aedat::SPECIAL, 0, &[aedat::special(7, 5, 9)])].concat();
     [
@@ -182,31 +181,21 @@ fn refusals_write_nothing() {
     let folder = folder_with_old("convert-refused");
     for (bytes, format, words, message) in refused() {
         for out in ["new", "old", "-"] {
-            run_on(&folder, &bytes, &["convert", "recording", out, "--format", format, "--to", words]).failed(&message);
+            run_on(&folder, &bytes, &["convert", "recording", out, "--format", format, "--to", words, "--force"]).failed(&message);
             assert_left(&folder);
         }
     }
 }
 
+/// A part of the rows: those that the words cannot hold are left out.
 #[test]
-fn files_that_cannot_be_written() {
-    let folder = folder("unwritable");
-    fs::create_dir(folder.join("folder")).expect("a folder");
-    // a device of the machine is no thing to try this on
-    assert!(Command::new("mkfifo").arg(folder.join("pipe")).status().expect("mkfifo runs").success());
-    let no_file = "it is there and is no file; name a file, or - for standard output";
-    let cases = [
-        ("nowhere/out", "cannot write nowhere/out: No such file or directory (os error 2)\n".to_string()),
-        ("recording/out", "cannot write recording/out: Not a directory (os error 20)\n".to_string()),
-        ("folder", format!("cannot write folder: {no_file}\n")),
-        ("pipe", format!("cannot write pipe: {no_file}\n")),
-        ("", "cannot write : the path names no file\n".to_string()),
-        ("folder/..", format!("cannot write folder/..: {no_file}\n")),
-    ];
-    for (out, message) in cases {
-        run_on(&folder, &in_order(), &["convert", "recording", out, "--format", "evt2", "--to", "evt2"]).failed(&message);
-        assert_eq!(files(&folder), ["folder", "pipe", "recording"]);
-    }
+fn a_part_of_the_rows() {
+    let folder = folder("convert-part");
+    let arguments = ["convert", "recording", "out", "--format=evt3", "--to=evt2", "--camera", "0"];
+    let run = run_on(&folder, &two_cameras(), &arguments).good();
+    assert_eq!(run.text(), format!("out: written; rows: 2 of 6, evt2 words: 3, bytes: 12\n{BACK} evt2\n"));
+    let rows = super::run::run(&folder, &["rows", "out", "--format", "evt2"]).good();
+    assert_eq!(rows.text(), "1 4098 0 5 3 1 0 0 0 0\n1 4099 0 6 7 1 0 0 0 0\n");
 }
 
 #[test]
@@ -215,23 +204,8 @@ fn a_disk_that_is_full() {
     fs::write(folder.join("recording"), dat::recording((640, 480), 10_000, &mut Numbers::new(0x4f8a_66d1_93b0_2e7c))).expect("a file");
     for out in ["new", "old"] {
         // a file can have some blocks only, and the process goes on where it has more
-        let run = run_after(&folder, "trap '' XFSZ; ulimit -f 8", &["convert", "recording", out, "--format", "dat", "--to", "evt3"]);
+        let run = run_after(&folder, "trap '' XFSZ; ulimit -f 8", &["convert", "recording", out, "--format", "dat", "--to", "evt3", "--force"]);
         run.failed(&format!("cannot write {out}: File too large (os error 27)\n"));
         assert_left(&folder);
     }
-}
-
-#[test]
-fn an_existing_file_is_replaced() {
-    let folder = folder("replaced");
-    fs::create_dir(folder.join("elsewhere")).expect("a folder");
-    fs::write(folder.join("elsewhere/out"), "longer than what is written, and gone afterwards").expect("a file");
-    symlink("elsewhere/out", folder.join("link")).expect("a link");
-    run_on(&folder, &in_order(), &["convert", "recording", "link", "--format", "evt2", "--to", "evt2"]).good();
-    assert_eq!(fs::read(folder.join("elsewhere/out")).expect("it was written"), in_order());
-    assert_eq!(files(&folder), ["elsewhere", "link", "recording"]);
-    assert_eq!(files(&folder.join("elsewhere")), ["out"]);
-    // also where it is the recording itself
-    run(&folder, &["convert", "recording", "recording", "--format", "evt2", "--to", "evt2"]).good();
-    assert_eq!(fs::read(folder.join("recording")).expect("it was written"), in_order());
 }

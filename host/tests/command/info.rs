@@ -19,17 +19,21 @@ events: 3
 first time: 64 µs
 last time: 66 µs
 span: 2 µs, 0.000002 s
+times out of order: 2
+triggers: 1
+    64 µs trigger channel 6 rising, out of order by 2 µs
 ";
 
 const RAW_EVT3: &str = r#"file: recording
 format: RAW file of EVT3 words (raw-evt3)
-size: 66 bytes
-header: the data begin at byte 42
+size: 79 bytes
+header: the data begin at byte 55
     % evt 3.0
     % Width: 640
+    % height 480
     % maker A\tB\xe9\ "C"\r
 picture width: 640 pixels
-picture height: 2048 pixels, the limit, since no line of the header says it
+picture height: 480 pixels
 events: 5
     pixel: 4
     trigger: 1
@@ -39,16 +43,20 @@ events: 5
 first time: 4098 µs
 last time: 33554433 µs
 span: 33550335 µs, 33.550335 s
+times out of order: 0
 clock wraps: 2 before the last event, 0 of them before the first; the clock wraps every 16777216 µs
+triggers: 1
+    33554433 µs trigger channel 15 falling
 "#;
 
 const DAT: &str = "\
 file: recording
 format: DAT file (dat)
-size: 31 bytes
-header: the data begin at byte 13
+size: 46 bytes
+header: the data begin at byte 28
+    % Width: 16384
     % Height 480
-picture width: 16384 pixels, the limit, since no line of the header says it
+picture width: 16384 pixels
 picture height: 480 pixels
 events: 2
     pixel: 2
@@ -59,6 +67,8 @@ events: 2
 first time: 100 µs
 last time: 12500100 µs
 span: 12500000 µs, 12.500000 s
+times out of order: 0
+triggers: 0
 ";
 
 const AEDAT: &str = "\
@@ -80,6 +90,9 @@ events: 4
 first time: 100 µs
 last time: 4294967596 µs
 span: 4294967496 µs, 4294.967496 s
+times out of order: 0
+triggers: 1
+    200 µs trigger channel 0 falling
 ";
 
 #[test]
@@ -87,7 +100,7 @@ fn every_format() {
     let folder = folder("info");
     let cases = [
         (inputs::evt2_words(), "--format evt2 --height 480", EVT2),
-        (inputs::raw(inputs::evt3_words()), "--format raw-evt3", RAW_EVT3),
+        (inputs::raw("3.0", &inputs::evt3_words()), "--format raw-evt3", RAW_EVT3),
         (inputs::dat(), "--format dat", DAT),
         (inputs::aedat(), "--format aedat", AEDAT),
     ];
@@ -107,6 +120,8 @@ events: 0
 first time: none
 last time: none
 span: none
+times out of order: 0
+triggers: 0
 ";
 
 #[test]
@@ -186,7 +201,7 @@ fn what_was_finished_before_a_refusal() {
         ("evt3", &inputs::evt3_words()[..13], "header: none\npicture width: 2048 pixels, the limit, since no --width is given\n"),
         ("evt3", &inputs::evt3_words()[..13], "events: 4 before the reading stopped\n    pixel: 4\n"),
         ("raw-evt3", b"% evt 3.0\n% width 1,280\n\x01\x80", "refused at byte 10, in the line marked >\n    % evt 3.0\n  > % width 1,280\n"),
-        ("raw-evt2", b"% evt 3.0\n% width 640\r\n", "    % evt 3.0\n  > % width 640\\r\npicture: not known\n"),
+        ("raw-evt2", b"% evt 2.0\n% width 640\r\n", "    % evt 2.0\n  > % width 640\\r\npicture: not known\n"),
         ("aedat", &inputs::aedat()[..40], "refused at byte 28, in the line marked >\n    #!AER-DAT3.1\n    #Format: RAW\n  > #Source 0: D\n"),
         ("aedat", &inputs::aedat()[..110], "header: the data begin at byte 61\n    #!AER-DAT3.1\n"),
     ];

@@ -18,8 +18,8 @@ pub const EVT2_ROWS: &str = "\
 
 pub const EVT2_EVENTS: &str = "\
 66 µs pixel x 5 y 3 brighter camera 0
-64 µs trigger channel 6 rising
-65 µs IMU counts acceleration x 1 y -2 z 0 g rotation x 1 y 0 z -0.007633588 °/s
+64 µs trigger channel 6 rising, out of order by 2 µs
+65 µs IMU counts acceleration x 1.000000 y -2.000000 z 0.000000 g rotation x 1.000000 y 0.000000 z -0.007634 °/s, out of order by 1 µs
 ";
 
 /// EVT3 words: a pixel, three more of a vector, and a trigger after two wraps of the clock.
@@ -66,17 +66,15 @@ pub const TWO_CAMERAS_EVENTS: &str = "\
 4099 µs trigger channel 1 falling
 ";
 
-/// The header of a RAW file that says the width alone, with bytes that are no text.
-pub const RAW_HEADER: &[u8] = b"% evt 3.0\n% Width: 640\n% maker A\tB\xe9\\ \"C\"\r\n";
-
-/// The same header before words.
-pub fn raw(words: Vec<u8>) -> Vec<u8> {
-    [RAW_HEADER.to_vec(), words].concat()
+/// A RAW file of such words, `2.0` or `3.0`. Its header has bytes that are no text.
+pub fn raw(version: &str, words: &[u8]) -> Vec<u8> {
+    let lines = format!("% evt {version}\n% Width: 640\n% height 480\n");
+    [lines.as_bytes(), b"% maker A\tB\xe9\\ \"C\"\r\n", words].concat()
 }
 
-/// A DAT file of two pixels 12,500,000 us apart.
+/// A DAT file of two pixels 12,500,000 us apart. The first event begins at byte 30.
 pub fn dat() -> Vec<u8> {
-    [&b"% Height 480\n"[..], &TYPE_AND_SIZE, &event(100, 5, 3, 1), &event(12_500_100, 16_383, 479, 0)].concat()
+    [&b"% Width: 16384\n% Height 480\n"[..], &TYPE_AND_SIZE, &event(100, 5, 3, 1), &event(12_500_100, 16_383, 479, 0)].concat()
 }
 
 pub const DAT_ROWS: &str = "\
@@ -109,7 +107,7 @@ pub const AEDAT_EVENTS: &str = "\
 100 µs pixel x 32767 y 3 darker camera 0
 200 µs trigger channel 0 falling
 90000 µs special type 5 data 16777215
-4294967596 µs IMU singles acceleration x 1 y -2.5 z 0.5 g rotation x 131.25 y 0 z -0.25 °/s temperature 21.5 °C
+4294967596 µs IMU singles acceleration x 1.000000 y -2.500000 z 0.500000 g rotation x 131.250000 y 0.000000 z -0.250000 °/s temperature 21.500000 °C
 ";
 
 /// A recording of each format, and of two cameras where the format has them: the name of the format, its bytes, its rows and its events.
@@ -118,9 +116,9 @@ pub fn all() -> [(&'static str, Vec<u8>, &'static str, &'static str); 8] {
         ("evt2", evt2_words(), EVT2_ROWS, EVT2_EVENTS),
         ("evt3", evt3_words(), EVT3_ROWS, EVT3_EVENTS),
         ("evt3", two_cameras(), TWO_CAMERAS_ROWS, TWO_CAMERAS_EVENTS),
-        ("raw-evt2", raw(evt2_words()), EVT2_ROWS, EVT2_EVENTS),
-        ("raw-evt3", raw(evt3_words()), EVT3_ROWS, EVT3_EVENTS),
-        ("raw-evt3", raw(two_cameras()), TWO_CAMERAS_ROWS, TWO_CAMERAS_EVENTS),
+        ("raw-evt2", raw("2.0", &evt2_words()), EVT2_ROWS, EVT2_EVENTS),
+        ("raw-evt3", raw("3.0", &evt3_words()), EVT3_ROWS, EVT3_EVENTS),
+        ("raw-evt3", raw("3.0", &two_cameras()), TWO_CAMERAS_ROWS, TWO_CAMERAS_EVENTS),
         ("dat", dat(), DAT_ROWS, DAT_EVENTS),
         ("aedat", aedat(), AEDAT_ROWS, AEDAT_EVENTS),
     ]

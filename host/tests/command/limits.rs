@@ -1,42 +1,76 @@
 //! Long recordings, little memory, and a standard output that takes no more.
-use super::run::{files, folder, run, run_after, run_on, Run, BINARY};
+use super::inputs::{dat, DAT_ROWS};
+use super::run::{command, files, folder, run, run_after, run_fed, run_on, Run, BINARY};
 use std::fs::{self, File};
-use std::io::Read;
+use std::io::{Read, Write};
 use std::path::Path;
 use std::process::{Command, Stdio};
-use trials::samples::{dat, evt3, Numbers};
+use std::time::Duration;
+use trials::samples::{self, evt3, Numbers};
 
 /// A file of zeros: as EVT2 words pixels before the clock, which give no rows.
 fn zeros(folder: &Path, length: u64) {
     File::create(folder.join("recording")).and_then(|file| file.set_len(length)).expect("a file for the test");
 }
 
+/// A file that is too long is refused by its length, and a stream by what was read of it.
 #[test]
 fn the_longest_input() {
     let folder = folder("longest");
     zeros(&folder, 1_073_741_824 + 5_000);
     let unread = "not read, since the file is too long";
+    let message = |name: &str| {
+        format!(
+            "refused 1: the input is longer than 1073741824 bytes\n\
+             at byte 0 of {name} (counted from 0); 0 rows were finished before it\n\
+             what to do: record in shorter parts, or cut the recording by time with a program of the camera's maker, as metavision_file_cutter \
+             cuts RAW files\n"
+        )
+    };
+    // no memory for so many bytes: they are not read
+    let within = |arguments: &[&str]| run_within(&folder, 100_000, arguments);
     for (format, header) in [("evt2", "none"), ("raw-evt3", unread), ("aedat", unread)] {
-        let run = run(&folder, &["info", "recording", "--format", format]);
-        let start = format!("size: over 1073741824 bytes\nheader: {header}\npicture");
+        let run = within(&["info", "recording", "--format", format]);
+        let start = format!("size: 1073746824 bytes\nheader: {header}\npicture");
         assert!(run.text().contains(&start) && run.text().contains("events: 0 before the reading stopped"), "{run:?}");
-        let message = "reading the recording\n\
-                       decoding 1073741825 bytes\n\
-                       refused 1: the input is longer than 1073741824 bytes\n\
-                       at byte 0 of recording (counted from 0); 0 rows were finished before it\n\
-                       what to do: split the recording, or record in shorter parts\n";
-        assert_eq!((run.status, run.stderr.as_str()), (Some(1), message), "{format}");
+        assert_eq!((run.status, run.stderr), (Some(1), message("recording")), "{format}");
     }
+    within(&["rows", "recording", "--format", "evt2"]).failed(&message("recording"));
+    within(&["convert", "recording", "out", "--format", "evt2", "--to", "evt2"]).failed(&message("recording"));
+    run_after(&folder, "ulimit -v 100000; exec < recording", &["rows", "-", "--format", "evt2"]).failed(&message("standard input"));
+    // a stream does not say how long it is
+    let run = run_after(&folder, "cat recording | \"$0\" \"$@\"; exit", &["info", "-", "--format", "evt2"]);
+    assert!(run.text().contains("size: over 1073741824 bytes\n"), "{run:?}");
+    assert_eq!(run.stderr, message("standard input"));
 }
 
+/// Nothing is told in the first second. A recording that comes more slowly has its stages told, and nothing else is changed by it.
 #[test]
 fn progress() {
     let folder = folder("progress");
-    for (length, told) in [(33_554_428, ""), (33_554_432, "reading the recording\ndecoding 33554432 bytes\nprinting 0 rows\n")] {
-        zeros(&folder, length);
-        let run = run(&folder, &["rows", "recording", "--format", "evt2"]);
-        assert_eq!((run.status, run.text(), run.stderr.as_str()), (Some(0), "", told));
-    }
+    let mut command = command(&folder, &["rows", "-", "--format", "dat"]);
+    let mut child = command.stdin(Stdio::piped()).stdout(Stdio::piped()).stderr(Stdio::piped()).spawn().expect("the command runs");
+    let mut stdin = child.stdin.take().expect("a pipe");
+    stdin.write_all(&dat()[..40]).expect("it is read");
+    std::thread::sleep(Duration::from_millis(1_800));
+    stdin.write_all(&dat()[40..]).expect("it is read");
+    drop(stdin);
+    let run = Run::from(child.wait_with_output().expect("the command ends"));
+    assert!(run.progress.starts_with("... reading: 0 bytes, after 1 s\n"), "{run:?}");
+    assert_eq!(run.good().text(), DAT_ROWS);
+}
+
+/// On a terminal it is one line, which is gone in the end.
+#[test]
+fn progress_on_a_terminal() {
+    let folder = folder("progress-terminal");
+    fs::write(folder.join("recording"), dat()).expect("a file for the test");
+    let line = format!("(head -c 40 recording; sleep 1.8; tail -c +41 recording) | {BINARY} rows - --format dat");
+    // all of it on one terminal
+    let output = Command::new("script").args(["-qec", &line, "/dev/null"]).current_dir(&folder).stdin(Stdio::null()).output().expect("script runs");
+    let shown = String::from_utf8(output.stdout).expect("text").replace("\r\n", "\n");
+    assert!(output.status.success() && shown.starts_with("\r\x1b[K... reading: 0 bytes, after 1 s\r\x1b[K"), "{shown:?}");
+    assert!(shown.ends_with(&format!("\r\x1b[K{DAT_ROWS}")), "{shown:?}");
 }
 
 /// EVT3 words that give so many rows, nearly twelve a word, so that the buffer has to grow to the most.
@@ -54,19 +88,24 @@ fn dense(rows: usize) -> Vec<u8> {
 fn the_longest_list() {
     let folder = folder("longest-list");
     let arguments = ["convert", "recording", "out", "--format", "evt3", "--to", "evt3"];
-    run_on(&folder, &dense(16_777_217), &arguments).failed(
+    // the last row a microsecond after the others
+    let recording = [dense(16_777_216), evt3::bytes_of(&[0x6001, 0x2000])].concat();
+    run_on(&folder, &recording, &arguments).failed(
         "refused 13: a list whose length is no multiple of ten, or over 16777216 rows\n\
          recording has 16777217 rows, and at most 16777216 can be written; nothing was written\n\
-         what to do: split the recording, or record in shorter parts\n",
+         what to do: write it in parts by time, to a file each: --until T for the first, then --from T, such as T 1\n",
     );
     assert_eq!(files(&folder), ["recording"]);
-    let run = run_on(&folder, &dense(16_777_216), &arguments).good();
-    assert!(run.text().starts_with("out: written; rows: 16777216, evt3 words: "), "{run:?}");
+    // as it says
+    for (part, out, rows) in [(["--until", "1"], "first", 16_777_216), (["--from", "1"], "second", 1)] {
+        let run = run(&folder, &[&["convert", "recording", out, "--format", "evt3", "--to", "evt3"], &part[..]].concat()).good();
+        assert!(run.text().starts_with(&format!("{out}: written; rows: {rows} of 16777217, evt3 words: ")), "{run:?}");
+    }
 }
 
 /// A DAT file of a million events, of 8 MB, whose rows take 40 MB.
 fn recording(folder: &Path) {
-    let bytes = dat::recording((640, 480), 1_000_000, &mut Numbers::new(0x2c96_41d7_f08e_b335));
+    let bytes = samples::dat::recording((640, 480), 1_000_000, &mut Numbers::new(0x2c96_41d7_f08e_b335));
     fs::write(folder.join("recording"), bytes).expect("a file for the test");
 }
 
@@ -98,7 +137,7 @@ fn memory_for_some_rows() {
     let message = format!(
         "not enough memory: the system refused {bytes} bytes for rows\n\
          recording is too large to be read in one piece on this machine; {rows} rows were finished\n\
-         what to do: split the recording, or use a machine with more memory\n"
+         what to do: use a machine with more memory, or record in shorter parts\n"
     );
     assert_eq!(run.stderr, message);
     // what did fit is summed up, and nothing is written
@@ -134,7 +173,7 @@ fn no_memory_for_the_file() {
     run.failed(
         "not enough memory: the system refused 71303168 bytes for the file\n\
          recording is too large to be read in one piece on this machine; no rows were read\n\
-         what to do: split the recording, or use a machine with more memory\n",
+         what to do: use a machine with more memory, or record in shorter parts\n",
     );
 }
 
@@ -143,8 +182,7 @@ fn a_closed_pipe() {
     let folder = folder("closed-pipe");
     recording(&folder);
     for arguments in [&["rows", "recording", "--format", "dat"][..], &["rows", "--events", "recording", "--format", "dat"]] {
-        let mut command = Command::new(BINARY);
-        let mut child = command.current_dir(&folder).args(arguments).stdout(Stdio::piped()).stderr(Stdio::piped()).spawn().expect("the command runs");
+        let mut child = command(&folder, arguments).stdout(Stdio::piped()).stderr(Stdio::piped()).spawn().expect("the command runs");
         let mut start = [0; 100];
         child.stdout.take().expect("a pipe").read_exact(&mut start).expect("some rows");
         let run = Run::from(child.wait_with_output().expect("the command ends"));
@@ -158,7 +196,30 @@ fn a_full_disk() {
     recording(&folder);
     // where there is such a device
     let Ok(full) = File::options().write(true).open("/dev/full") else { return };
-    let mut command = Command::new(BINARY);
-    let output = command.current_dir(&folder).args(["rows", "recording", "--format", "dat"]).stdout(full).output().expect("the command runs");
+    let output = command(&folder, &["rows", "recording", "--format", "dat"]).stdout(full).output().expect("the command runs");
     Run::from(output).failed("cannot write to standard output: No space left on device (os error 28)\n");
+}
+
+/// Standard output and standard input that are closed, or not open for what they are there for.
+#[test]
+fn nowhere_to_write_or_read() {
+    let folder = folder("closed");
+    fs::write(folder.join("recording"), dat()).expect("a file for the test");
+    let closed = "cannot write to standard output: it is closed\n";
+    let commands: [&[&str]; 5] =
+        [&["--help"], &["refusals"], &["info", "recording", "--format=dat"], &["rows", "recording", "--format=dat"], &["convert", "recording", "out", "--format=dat", "--to=evt2"]];
+    for arguments in commands {
+        run_after(&folder, "exec >&-", arguments).failed(closed);
+    }
+    assert_eq!(files(&folder), ["recording"]);
+    let unwritable = "cannot write to standard output: Bad file descriptor (os error 9)\n";
+    run_after(&folder, "exec 1< /dev/null", &["rows", "recording", "--format=dat"]).failed(unwritable);
+    run_after(&folder, "exec <&-", &["rows", "-", "--format=dat"]).failed("cannot read standard input: it is closed\n");
+    // where it is not asked for, it may be closed
+    assert_eq!(run_after(&folder, "exec <&-", &["rows", "recording", "--format=dat"]).good().text(), DAT_ROWS);
+    // what is read and thrown away is written
+    run_fed(&folder, &dat(), &["rows", "-", "--format=dat"]).good();
+    run_after(&folder, "exec > /dev/null", &["rows", "recording", "--format=dat"]).good();
+    // usage is told all the same
+    run_after(&folder, "exec >&-", &["rows"]).declined(&format!("FILE is missing: {BINARY} rows FILE\ntry {BINARY} --help\n"));
 }

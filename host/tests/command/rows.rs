@@ -1,5 +1,5 @@
 //! `rows`: the lines of every format, from files and from standard input.
-use super::inputs::{self, raw, RAW_HEADER};
+use super::inputs::{self, raw};
 use super::run::{folder, run, run_fed, run_on};
 use fryskelom::{read_aedat, read_dat, read_evt2, read_evt3, read_raw_evt2, read_raw_evt3, Fault};
 use std::ffi::OsStr;
@@ -57,6 +57,26 @@ fn width_and_height_of_bare_words() {
     }
 }
 
+/// Which picture was taken is told where the header does not say it whole; `info` says it itself.
+#[test]
+fn a_picture_that_the_header_does_not_say() {
+    let folder = folder("unsaid");
+    let cases: [(&str, &[u8], &str); 6] = [
+        ("raw-evt3", b"% width 640\n% height 480\n", ""),
+        ("raw-evt3", b"% evt 3.0\n", "says no width or height, so that a picture of 2048 by 2048 pixels was taken"),
+        ("raw-evt2", b"", "says no width or height, so that a picture of 2048 by 2048 pixels was taken"),
+        ("raw-evt2", b"% Width: 640\n", "says no height, so that a picture of 640 by 2048 pixels was taken"),
+        ("raw-evt3", b"% height 2048\n", "says no width, so that a picture of 2048 by 2048 pixels was taken"),
+        ("dat", b"% Height 480\n\x00\x08", "says no width, so that a picture of 16384 by 480 pixels was taken"),
+    ];
+    for (format, bytes, told) in cases {
+        let note = if told.is_empty() { String::new() } else { format!("note: the header of recording {told}\n") };
+        run_on(&folder, bytes, &["rows", "recording", "--format", format]).noted(&note);
+        run_on(&folder, bytes, &["convert", "recording", "out", "--format", format, "--to", "evt3", "--force"]).noted(&note);
+        run_on(&folder, bytes, &["info", "recording", "--format", format]).good();
+    }
+}
+
 /// A reader of the library.
 type Reader = fn(&[u8], &mut [u32]) -> Result<usize, Fault>;
 
@@ -70,8 +90,8 @@ fn the_rows_are_those_that_the_library_reads() {
     let cases: [(&str, Vec<u8>, Reader); 6] = [
         ("evt2", words2.clone(), |bytes, rows| read_evt2(bytes, 2_048, 2_048, rows)),
         ("evt3", words3.clone(), |bytes, rows| read_evt3(bytes, 2_048, 2_048, rows)),
-        ("raw-evt2", [&b"% width 1280\n"[..], &words2].concat(), read_raw_evt2),
-        ("raw-evt3", [&b"% width 1280\n"[..], &words3].concat(), read_raw_evt3),
+        ("raw-evt2", [&b"% width 1280\n% height 720\n"[..], &words2].concat(), read_raw_evt2),
+        ("raw-evt3", [&b"% width 1280\n% height 720\n"[..], &words3].concat(), read_raw_evt3),
         ("dat", dat::recording(picture, events, &mut numbers), read_dat),
         ("aedat", aedat::recording(aedat::Scene::Mixed, picture, 0, events, &mut numbers), read_aedat),
     ];
@@ -92,7 +112,7 @@ fn lines(rows: &[u32]) -> String {
 #[test]
 fn no_rows() {
     let folder = folder("no-rows");
-    for (format, bytes) in [("evt2", vec![]), ("evt3", vec![]), ("raw-evt2", vec![]), ("raw-evt3", RAW_HEADER.to_vec()), ("raw-evt3", raw(vec![]))] {
+    for (format, bytes) in [("evt2", vec![]), ("evt3", vec![]), ("raw-evt2", raw("2.0", &[])), ("raw-evt3", raw("3.0", &[]))] {
         assert_eq!(run_on(&folder, &bytes, &["rows", "recording", "--format", format]).good().text(), "", "{format}");
     }
 }

@@ -138,7 +138,9 @@ fn from_anywhere() {
     assert_eq!(tree.run("link", &["rows", "a.dat"]).good().text(), DAT_ROWS);
     // the status is the command's
     let run = tree.run("link", &["rows"]);
-    assert_eq!((run.status, run.stderr.as_str()), (Some(2), "FILE is missing: ./fryskelom rows FILE\ntry ./fryskelom --help\n"));
+    // and so is the name that it calls itself by, which is the script's
+    let name = tree.0.join("elsewhere/link").display().to_string();
+    assert_eq!((run.status, run.stderr), (Some(2), format!("FILE is missing: {name} rows FILE\ntry {name} --help\n")));
 }
 
 #[test]

@@ -1,8 +1,11 @@
 /* Fryskelom: events of an event camera's recording, read and written by a proved library.
  *
+ * `rt staticlib fryskelom` writes the library, and this line links a program with it, in the folder of the repository:
+ *
+ *     cc program.c -Iinclude -Ltarget/staticlib -lfryskelom -o program
+ *
  * A buffer passes as a pointer and the number of its elements. No pointer is null, also where the number is 0, and no two
- * buffers of one call overlap; what a call does otherwise is not promised. Refusals have the numbers of the README's table: 1 to 6 and
- * 8 to 14. 7 was that of a slave camera's bit, which is read now; the number is never used again. */
+ * buffers of one call overlap; what a call does otherwise is not promised. */
 #ifndef FRYSKELOM_H
 #define FRYSKELOM_H
 
@@ -12,6 +15,46 @@
 #ifdef __cplusplus
 extern "C" {
 #endif
+
+/* The numbers of a row: kind, time mod 2^32, time div 2^32, and seven data numbers. Times are whole microseconds. */
+#define FRY_ROW_NUMBERS 10
+
+/* The kinds of rows: a row's first number. 5 was that of USB packets, which give no row any more; it is never used again. */
+enum {
+    FRY_PIXEL = 1,
+    FRY_TRIGGER = 2,
+    FRY_IMU_COUNTS = 3,
+    FRY_IMU_SINGLES = 4,
+    FRY_SPECIAL = 6
+};
+
+/* The refusals, 0 being none; the README says what was found and what to do. 7 was that of a slave camera's bit, which is read now; it is
+ * never used again. */
+enum {
+    FRY_TOO_LONG = 1,     /* the input is longer than 1073741824 bytes */
+    FRY_NO_ROOM = 2,      /* rows or bytes do not fit the buffer */
+    FRY_RESERVED = 3,     /* a word of a reserved type */
+    FRY_CUT = 4,          /* the input ends inside a word, group, event, packet or header */
+    FRY_BAD_TIME = 5,     /* a time goes back, is negative or passes the limit */
+    FRY_OUTSIDE = 6,      /* a pixel outside the picture, or a polarity over 1 */
+    FRY_STRAY = 8,        /* a word inside an IMU group does not continue it */
+    FRY_BAD_HEADER = 9,   /* a bad text header, or a bad type or size after it */
+    FRY_BAD_PACKET = 10,  /* a bad AEDAT packet */
+    FRY_CLOCK_RESET = 11, /* the camera's clock was reset */
+    FRY_BAD_ROW = 12,     /* a bad row, or one that the format cannot write */
+    FRY_BAD_LIST = 13,    /* a list whose length is no multiple of ten, or over 16777216 rows */
+    FRY_BAD_PICTURE = 14  /* a picture width or height of 0 or over 2048 */
+};
+
+/* As many rows as so many bytes can give, of words or of a whole file: a buffer of FRY_ROW_NUMBERS times as many numbers is always enough. */
+#define FRY_MOST_ROWS_EVT2(bytes) ((bytes) / 4)
+#define FRY_MOST_ROWS_EVT3(bytes) ((bytes) / 2 * 12)
+#define FRY_MOST_ROWS_DAT(bytes) ((bytes) / 8)
+#define FRY_MOST_ROWS_AEDAT(bytes) ((bytes) / 8)
+
+/* As many words as are always enough for so many rows, the last of them at this time: of four bytes for EVT2, of two for EVT3. */
+#define FRY_MOST_WORDS_EVT2(rows) (7 * (rows))
+#define FRY_MOST_WORDS_EVT3(rows, last_time) (4 * (rows) + 2 * ((last_time) / 16777216))
 
 /* A reader's answer. refusal 0: finished, and place is 0. Else rows are those finished before the fault, place the byte where it lies. */
 typedef struct {
@@ -32,8 +75,6 @@ typedef struct {
 
 /* The event of a row: its kind, its time in microseconds, the row's own seven numbers, and for an IMU the readings
  * (acceleration X, Y, Z in g, rotation X, Y, Z in degrees a second, temperature), +0 where there are none.
- * The kind is 1 (pixel), 2 (trigger), 3 (IMU counts), 4 (IMU singles) or 6 (special). 5 was that of USB packets, which give no
- * row any more: a row of it is not good, and the number is never used again.
  * The data of a pixel are x, y, polarity (1 brighter), camera (0, or 1 for a slave on the same clock), and zeros. A row stored before cameras
  * had numbers has 0 there, and so is of camera 0.
  * Refused: all else is 0. A NaN's payload stands in data alone. */

@@ -13,6 +13,8 @@ mod inputs;
 mod limits;
 #[path = "command/out.rs"]
 mod out;
+#[path = "command/readme.rs"]
+mod readme;
 #[path = "command/refusals.rs"]
 mod refusals;
 #[path = "command/rows.rs"]

@@ -57,7 +57,8 @@ pub fn contradiction(bytes: &[u8], format: &Format) -> Option<Claim> {
 fn header_lines(mut bytes: &[u8]) -> Vec<&[u8]> {
     let mut lines = vec![];
     while let Some(end) = bytes.iter().take(LONGEST).position(|&byte| byte == b'\n') {
-        if !bytes.starts_with(b"% ") && !(lines.is_empty() && bytes.starts_with(AEDAT)) {
+        let is_aedat = lines.is_empty() && bytes.starts_with(AEDAT);
+        if !is_aedat && !bytes.starts_with(b"% ") {
             break;
         }
         lines.push(bytes[..end].trim_ascii_end());
@@ -128,7 +129,10 @@ impl Claim {
             Says::Unread(title) => unread(title),
             says => format!("name {}", listed(names_that_say(says), "--format ", "or")),
         };
-        format!("{}\nthat is another format than {name} ({title})\nwhat to do: {advice}; --force reads the file as {name} all the same", self.quoted())
+        format!(
+            "{}\nthat is another format than {name} ({title})\nwhat to do: {advice}; --force reads the file as {name} all the same",
+            self.quoted()
+        )
     }
 }
 

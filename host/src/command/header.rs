@@ -10,6 +10,9 @@ const AEDAT_END: &[u8] = b"#!END-HEADER\r\n";
 /// So many bytes of a line at fault are shown.
 const SHOWN: usize = 256;
 
+/// So many lines of a header are shown; no camera writes as many.
+const MOST_LINES: usize = 1_000;
+
 /// Lines on the header and on the picture.
 pub fn lines(recording: &Recording, stop: Option<Stop>) -> Vec<String> {
     match recording.format.head {
@@ -101,10 +104,16 @@ fn refused(bytes: &[u8], place: usize, newline: &[u8]) -> Vec<String> {
     [vec![first], escaped(&bytes[..place], newline), fault.collect()].concat()
 }
 
-/// Lines as they stand, but for control characters and bytes that are not ASCII.
+/// Lines as they stand, but for control characters and bytes that are not ASCII. Of very many the first are enough.
 fn escaped(lines: &[u8], newline: &[u8]) -> Vec<String> {
-    let lines = lines.split_inclusive(|&byte| byte == b'\n').map(|line| line.strip_suffix(newline).unwrap_or(line));
-    lines.map(|line| format!("    {}", escaped_line(line))).collect()
+    let mut lines = lines.split_inclusive(|&byte| byte == b'\n');
+    let first = lines.by_ref().take(MOST_LINES).map(|line| format!("    {}", escaped_line(line.strip_suffix(newline).unwrap_or(line))));
+    let mut shown: Vec<_> = first.collect();
+    let hidden = lines.count();
+    if hidden > 0 {
+        shown.push(format!("    and {hidden} more lines"));
+    }
+    shown
 }
 
 fn escaped_line(line: &[u8]) -> String {

@@ -105,11 +105,14 @@ fn source(forced: &str) -> String {
     [
         option("--format FORMAT", "what the recording is, in any letter case:"),
         lines_of_formats(),
-        wrapped(&" ".repeat(INDENT), &format!(
+        wrapped(
+            &" ".repeat(INDENT),
+            &format!(
             "It is not needed where the name ends in {}. Of a RAW file you say which words it holds: what its header says is quoted where you leave \
              it out, and held against what you say.",
             listed(suffixes(), ".", "or")
-        )),
+        ),
+        ),
         option("--width N", &format!("the picture's pixels, with {} alone: 1 to 2048, and 2048 where left out", listed(bare(), "", "and"))),
         option("--height N", "likewise"),
         option("--force", forced),

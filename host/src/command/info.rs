@@ -1,11 +1,13 @@
 //! `info`: what a recording holds.
 use super::arguments::Source;
 use super::events::{self, KINDS};
+use super::memory::Lack;
 use super::progress::Progress;
 use super::recording::{Input, Reading, Recording};
-use super::view::{Item, View};
+use super::view::{Item, Looked, View};
 use super::{header, output, Failure};
 use fryskelom::{kind, MOST_BYTES};
+use std::collections::VecDeque;
 
 /// So many triggers are listed from the first one on, and so many up to the last.
 const TRIGGERS: usize = 100;
@@ -17,7 +19,9 @@ pub fn print(source: &Source, view: &View) -> Result<(), Failure> {
     let reading = recording.read(&progress);
     progress.stage("counting", "rows");
     progress.done(reading.rows());
-    let lines = [about_file(&recording), header::lines(&recording, reading.stop), about_rows(&recording, &reading, view)].concat();
+    let lack = |lack: Lack| Failure::Failed(lack.message("triggers or bins", &recording.name, "nothing was counted"));
+    let about_rows = about_rows(&recording, &reading, view).map_err(lack)?;
+    let lines = [about_file(&recording), header::lines(&recording, reading.stop), about_rows].concat();
     drop(progress);
     output::write((lines.join("\n") + "\n").as_bytes())?;
     reading.end(&recording)
@@ -33,8 +37,9 @@ fn about_file(recording: &Recording) -> Vec<String> {
     ]
 }
 
-fn about_rows(recording: &Recording, reading: &Reading, view: &View) -> Vec<String> {
-    let summary = Summary::of(view.items(reading.numbers()));
+fn about_rows(recording: &Recording, reading: &Reading, view: &View) -> Result<Vec<String>, Lack> {
+    let looked = view.look(reading.numbers())?;
+    let summary = Summary::of(looked.items());
     let part = if reading.stop.is_some() { " before the reading stopped" } else { "" };
     let mut lines = match view.selection.is_any() {
         true => vec![format!("events: {} of {}{part}, by the filters that were given", summary.count, reading.rows())],
@@ -45,36 +50,43 @@ fn about_rows(recording: &Recording, reading: &Reading, view: &View) -> Vec<Stri
     lines.push(format!("times out of order: {}", summary.behind));
     lines.extend(recording.format.wrap.map(|wrap| summary.wraps(wrap)));
     lines.extend(view.since.as_ref().map(|since| format!("time since the last {}: {}", since.title(), summary.since())));
-    lines.extend(view.bins.iter().flat_map(|&microseconds| about_bins(view, microseconds, reading.numbers())));
-    lines.extend(triggers(view, reading.numbers()));
-    lines
+    if let Some(microseconds) = view.bins {
+        lines.extend(about_bins(&looked, microseconds)?);
+    }
+    lines.extend(triggers(&looked));
+    Ok(lines)
 }
 
 /// How many bins hold events, and the first one that holds the most.
-fn about_bins(view: &View, microseconds: u64, numbers: &[u32]) -> Vec<String> {
-    let bins = view.filled(microseconds, numbers);
+fn about_bins(looked: &Looked, microseconds: u64) -> Result<Vec<String>, Lack> {
+    let bins = looked.bins(microseconds)?;
     let mut lines = vec![format!("bins of {microseconds} µs that hold events: {}", bins.len())];
     // the last of those that are alike would be taken, so from the end
-    if let Some((start, bin)) = bins.iter().rev().max_by_key(|(_, bin)| bin.count) {
-        let since = bin.edge.map_or(String::new(), |edge| format!(", {} µs after {}", start - edge.time, edge.title()));
-        lines.push(format!("    most events in one: {}, from {start} µs on{since}", bin.count));
+    if let Some((start, count)) = bins.iter().rev().max_by_key(|(_, count)| *count) {
+        let since = looked.edges.last(*start).map_or(String::new(), |edge| format!(", {} µs after {}", start - edge.time, edge.title()));
+        lines.push(format!("    most events in one: {count}, from {start} µs on{since}"));
     }
-    lines
+    Ok(lines)
 }
 
 /// The triggers, or the first and the last of them where they are many.
-fn triggers(view: &View, numbers: &[u32]) -> Vec<String> {
-    let triggers: Vec<Item> = view.items(numbers).filter(|item| item.row[0] == kind::TRIGGER).collect();
-    let line = |item: &Item| format!("    {}", events::line_of(item, false));
-    let list = |items: &[Item]| items.iter().map(line).collect::<Vec<_>>();
-    let listed = match triggers.len().checked_sub(2 * TRIGGERS) {
-        Some(hidden @ 1..) => {
-            let [first, last] = [&triggers[..TRIGGERS], &triggers[triggers.len() - TRIGGERS..]].map(list);
-            [first, vec![format!("    and {hidden} more, up to the last {TRIGGERS}:")], last].concat()
+fn triggers(looked: &Looked) -> Vec<String> {
+    let (mut count, mut first, mut last) = (0, vec![], VecDeque::new());
+    for item in looked.items().filter(|item| item.row[0] == kind::TRIGGER) {
+        count += 1;
+        if count <= TRIGGERS {
+            first.push(item);
+            continue;
         }
-        _ => list(&triggers),
-    };
-    [vec![format!("triggers: {}", triggers.len())], listed].concat()
+        if last.len() == TRIGGERS {
+            last.pop_front();
+        }
+        last.push_back(item);
+    }
+    let hidden = count - first.len() - last.len();
+    let between = (hidden > 0).then(|| format!("    and {hidden} more, up to the last {TRIGGERS}:"));
+    let line = |item: &Item| format!("    {}", events::line_of(item, false));
+    [format!("triggers: {count}")].into_iter().chain(first.iter().map(line)).chain(between).chain(last.iter().map(line)).collect()
 }
 
 /// How many events there are of each kind, by its number, how many pixels of each camera, how many whose times are out of order, the smallest and the

@@ -17,6 +17,16 @@ impl Lack {
     }
 }
 
+/// Adds an element to a list, if there is memory for a longer one.
+pub fn pushed<T>(list: &mut Vec<T>, element: T) -> Result<(), Lack> {
+    if list.len() == list.capacity() {
+        let more = list.len().max(64);
+        list.try_reserve(more).map_err(|_| Lack((list.len() + more).saturating_mul(size_of::<T>())))?;
+    }
+    list.push(element);
+    Ok(())
+}
+
 /// A number whose value is 0 where all its bits are.
 pub trait Number: Copy {}
 

@@ -49,7 +49,9 @@ impl Out {
         };
         match self.force {
             true => replaceable(path, &old).map(|()| Some(old)).map_err(|error| self.failed(&error)),
-            false => Err(Failure::Declined(format!("{} is there already, and stays as it is; name another file, or add --force to replace it", self.name))),
+            false => {
+                Err(Failure::Declined(format!("{} is there already, and stays as it is; name another file, or add --force to replace it", self.name)))
+            }
         }
     }
 
@@ -67,7 +69,9 @@ impl Out {
         match &self.place {
             Place::Standard => standard::output().and_then(|mut file| file.write_all(bytes)).map_err(|error| self.failed(&error)),
             // what a descriptor leads to is not overwritten
-            Place::Stream(path) => File::options().append(true).open(path).and_then(|mut file| file.write_all(bytes)).map_err(|error| self.failed(&error)),
+            Place::Stream(path) => {
+                File::options().append(true).open(path).and_then(|mut file| file.write_all(bytes)).map_err(|error| self.failed(&error))
+            }
             Place::File(path) => self.write_file(path, bytes),
         }
     }
@@ -103,7 +107,9 @@ const STANDARD: [&str; 4] = ["-", "/dev/stdout", "/dev/fd/1", "/proc/self/fd/1"]
 fn place(path: &Path) -> io::Result<Place> {
     let kind = match fs::metadata(path) {
         Ok(metadata) => metadata.file_type(),
-        Err(error) if error.kind() == ErrorKind::NotFound && fs::symlink_metadata(path).is_ok() => return Err(other("it is a link that leads nowhere")),
+        Err(error) if error.kind() == ErrorKind::NotFound && fs::symlink_metadata(path).is_ok() => {
+            return Err(other("it is a link that leads nowhere"))
+        }
         Err(error) if error.kind() == ErrorKind::NotFound => return new_file(path),
         Err(error) => return Err(error),
     };

@@ -63,7 +63,10 @@ impl Input {
         let (metadata, file) = opened.map_err(|error| unreadable(&name, &error))?;
         let input = Input { name, file, metadata };
         if standard::output().and_then(|output| output.metadata()).is_ok_and(|output| input.is(&output)) {
-            return Err(Failure::Declined(format!("{} is where standard output goes: the recording would be changed, so nothing was done", input.name)));
+            return Err(Failure::Declined(format!(
+                "{} is where standard output goes: the recording would be changed, so nothing was done",
+                input.name
+            )));
         }
         Ok(input)
     }

@@ -1,9 +1,11 @@
 //! `rows`: the rows of a recording as lines of text, or how many there are in each bin.
 use super::arguments::Source;
 use super::columns::{add_cell, Column};
+use super::memory::Lack;
 use super::progress::Progress;
 use super::recording::Input;
-use super::view::{Item, View};
+use super::since::Edges;
+use super::view::{Bin, Looked, View};
 use super::{events, header, output, Failure};
 
 /// Lines are written to standard output when they have so many bytes together.
@@ -24,46 +26,47 @@ pub fn print(source: &Source, view: &View, lines: &Lines) -> Result<(), Failure>
     let recording = Input::open(source)?.load(source, &progress)?;
     let reading = recording.read(&progress);
     header::note(&recording, &progress);
-    view.lack_of_edges(reading.numbers()).iter().for_each(|note| progress.note(note));
+    let lack = |lack: Lack| Failure::Failed(lack.message("triggers or bins", &recording.name, "nothing was printed"));
+    let looked = view.look(reading.numbers()).map_err(lack)?;
+    looked.lack_of_edges().iter().for_each(|note| progress.note(note));
     progress.before_printing();
     progress.stage("printing", "lines");
     let mut printer = Printer { text: vec![], lines: 0, progress: &progress };
     match lines {
-        Lines::Columns(columns, named) => print_columns(view.items(reading.numbers()), columns, *named, &mut printer),
-        Lines::Events => view.items(reading.numbers()).try_for_each(|item| printer.line(|text| add_text(&events::line_of(&item, view.since.is_some()), text))),
-        Lines::Bins(microseconds, named) => print_bins(view, *microseconds, reading.numbers(), *named, &mut printer),
+        Lines::Columns(columns, named) => print_columns(&looked, columns, *named, &mut printer),
+        Lines::Events => looked.items().try_for_each(|item| printer.line(|text| add_text(&events::line_of(&item, view.since.is_some()), text))),
+        Lines::Bins(microseconds, named) => {
+            let bins = looked.bins(*microseconds).map_err(lack)?;
+            print_bins(&bins, view.since.is_some().then_some(&looked.edges), *named, &mut printer)
+        }
     }?;
     printer.flush()?;
     drop(progress);
     reading.end(&recording)
 }
 
-fn print_columns<'a>(items: impl Iterator<Item = Item<'a>>, columns: &[Column], named: bool, printer: &mut Printer) -> Result<(), Failure> {
+fn print_columns(looked: &Looked, columns: &[Column], named: bool, printer: &mut Printer) -> Result<(), Failure> {
     if named {
         printer.line(|text| columns.iter().for_each(|column| add_text(column.name, text)))?;
     }
-    for item in items {
-        printer.line(|text| columns.iter().for_each(|column| column.add(&item, text)))?;
-    }
-    Ok(())
+    looked.items().try_for_each(|item| printer.line(|text| columns.iter().for_each(|column| column.add(&item, text))))
 }
 
-fn print_bins(view: &View, microseconds: u64, numbers: &[u32], named: bool, printer: &mut Printer) -> Result<(), Failure> {
-    let since = view.since.is_some();
+/// Prints bins, with the time since the last edge where that was asked for.
+fn print_bins(bins: &[Bin], since: Option<&Edges>, named: bool, printer: &mut Printer) -> Result<(), Failure> {
     if named {
-        let names: &[&str] = if since { &["time_us", "since_us", "events"] } else { &["time_us", "events"] };
+        let names: &[&str] = if since.is_some() { &["time_us", "since_us", "events"] } else { &["time_us", "events"] };
         printer.line(|text| names.iter().for_each(|name| add_text(name, text)))?;
     }
-    for (start, bin) in view.filled(microseconds, numbers) {
+    bins.iter().try_for_each(|&(start, count)| {
         printer.line(|text| {
             add_cell(Some(start), text);
-            if since {
-                add_cell(bin.edge.map(|edge| start - edge.time), text);
+            if let Some(edges) = since {
+                add_cell(edges.last(start).map(|edge| start - edge.time), text);
             }
-            add_cell(Some(bin.count as u64), text);
-        })?;
-    }
-    Ok(())
+            add_cell(Some(count as u64), text);
+        })
+    })
 }
 
 /// Adds a text and a space.

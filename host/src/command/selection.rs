@@ -21,9 +21,12 @@ pub struct Selection {
     pub from: u64,
     until: Option<u64>,
     kinds: Option<Vec<u32>>,
-    region: Option<(Range<u64>, Range<u64>)>,
+    region: Option<Region>,
     camera: Option<u64>,
 }
+
+/// Columns and lines of the picture.
+type Region = (Range<u64>, Range<u64>);
 
 impl Selection {
     pub fn given(given: &Given) -> Result<Selection, String> {
@@ -44,9 +47,10 @@ impl Selection {
         time >= self.from
             && self.until.is_none_or(|until| time < until)
             && self.kinds.as_ref().is_none_or(|kinds| kinds.contains(&row[0]))
-            && self.region.as_ref().is_none_or(|(columns, lines)| {
-                row[0] == kind::PIXEL && columns.contains(&row[3].into()) && lines.contains(&row[4].into())
-            })
+            && self
+                .region
+                .as_ref()
+                .is_none_or(|(columns, lines)| row[0] == kind::PIXEL && columns.contains(&row[3].into()) && lines.contains(&row[4].into()))
             && self.camera.is_none_or(|camera| row[0] == kind::PIXEL && u64::from(row[6]) == camera)
     }
 }
@@ -62,13 +66,17 @@ fn kinds(given: &Given) -> Result<Option<Vec<u32>>, String> {
         None => {
             let names: Vec<_> = kind_names().collect();
             let close = proposal(name, names.iter().map(String::as_str));
-            Err(format!("--kind {}: there is no such kind; name {}, or several with commas between{close}", shown(name), listed(names.iter(), "", "or")))
+            Err(format!(
+                "--kind {}: there is no such kind; name {}, or several with commas between{close}",
+                shown(name),
+                listed(names.iter(), "", "or")
+            ))
         }
     };
     given.value("--kind").map(|names| names.split(',').map(of).collect()).transpose()
 }
 
-fn region(given: &Given) -> Result<Option<(Range<u64>, Range<u64>)>, String> {
+fn region(given: &Given) -> Result<Option<Region>, String> {
     let Some(values) = given.values("--region") else {
         return Ok(None);
     };

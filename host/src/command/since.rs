@@ -1,8 +1,9 @@
 //! The last edge of a trigger before an event: how long after the coil was switched did something move?
+use super::memory::{pushed, Lack};
 use super::names::shown;
 use super::options::{number, Given};
 use super::recording::time_of;
-use fryskelom::kind;
+use fryskelom::{kind, ROW_NUMBERS};
 
 /// Which edges are meant.
 pub struct Since {
@@ -19,6 +20,7 @@ pub struct Edge {
 }
 
 /// The edges that are meant, in the order of time.
+#[derive(Default)]
 pub struct Edges(Vec<Edge>);
 
 impl Since {
@@ -43,14 +45,17 @@ impl Since {
     }
 
     /// Those of the recording, whatever the filters let through.
-    pub fn edges(&self, numbers: &[u32]) -> Edges {
-        let triggers = numbers.chunks_exact(10).filter(|row| row[0] == kind::TRIGGER);
-        let edges = triggers.map(|row| Edge { time: time_of(row), channel: row[3], rising: row[4] == 1 });
-        let meant = |edge: &Edge| edge.rising == self.rising && self.channel.is_none_or(|channel| edge.channel == channel);
-        let mut edges: Vec<Edge> = edges.filter(meant).collect();
-        // a recording need not be in the order of time
+    pub fn edges(&self, numbers: &[u32]) -> Result<Edges, Lack> {
+        let mut edges = vec![];
+        for row in numbers.chunks_exact(ROW_NUMBERS).filter(|row| row[0] == kind::TRIGGER) {
+            let edge = Edge { time: time_of(row), channel: row[3], rising: row[4] == 1 };
+            if edge.rising == self.rising && self.channel.is_none_or(|channel| edge.channel == channel) {
+                pushed(&mut edges, edge)?;
+            }
+        }
+        // a recording need not be in the order of time; the last of those at one time stays the last
         edges.sort_by_key(|edge| edge.time);
-        Edges(edges)
+        Ok(Edges(edges))
     }
 
     /// What is meant, in words.

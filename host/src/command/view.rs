@@ -1,17 +1,27 @@
 //! The rows that are looked at, each with what the rows around it say of it.
+use super::memory::{pushed, Lack};
 use super::options::{Given, Opt};
 use super::recording::time_of;
 use super::selection::Selection;
 use super::since::{Edge, Edges, Since};
-use std::collections::BTreeMap;
+use fryskelom::ROW_NUMBERS;
 
 /// What `rows` and `info` have beside the filters.
 pub const OPTIONS: &[Opt] = &[Opt { name: "--since", values: &["EDGE"] }, Opt { name: "--bins", values: &["MICROSECONDS"] }];
 
+/// What was asked for.
 pub struct View {
     pub selection: Selection,
     pub since: Option<Since>,
     pub bins: Option<u64>,
+}
+
+/// The rows of a recording, as they are looked at.
+pub struct Looked<'a> {
+    view: &'a View,
+    numbers: &'a [u32],
+    /// Those that times are counted from, if any are.
+    pub edges: Edges,
 }
 
 /// A row of a recording.
@@ -20,15 +30,12 @@ pub struct Item<'a> {
     pub time: u64,
     /// By how many microseconds it is earlier than some row before it in the recording.
     pub behind: u64,
-    /// The last edge before it, where one was asked for and is there.
+    /// The last edge before it.
     pub edge: Option<Edge>,
 }
 
-/// How many events there are in a bin, and the last edge before it.
-pub struct Bin {
-    pub edge: Option<Edge>,
-    pub count: usize,
-}
+/// The time at which a bin begins, and the number of its events.
+pub type Bin = (u64, usize);
 
 impl View {
     pub fn given(given: &Given) -> Result<View, String> {
@@ -39,39 +46,53 @@ impl View {
         Ok(View { selection: Selection::given(given)?, since: Since::given(given)?, bins })
     }
 
+    pub fn look<'a>(&'a self, numbers: &'a [u32]) -> Result<Looked<'a>, Lack> {
+        let edges = match &self.since {
+            Some(since) => since.edges(numbers)?,
+            None => Edges::default(),
+        };
+        Ok(Looked { view: self, numbers, edges })
+    }
+}
+
+impl<'a> Looked<'a> {
     /// The rows that pass the filters.
-    pub fn items<'a>(&'a self, numbers: &'a [u32]) -> impl Iterator<Item = Item<'a>> {
-        let edges = self.edges(numbers);
+    pub fn items(&self) -> impl Iterator<Item = Item<'a>> + use<'a, '_> {
         let mut latest = 0;
-        let items = numbers.chunks_exact(10).map(move |row| {
+        let rows = self.numbers.chunks_exact(ROW_NUMBERS).map(move |row| {
             let time = time_of(row);
             latest = time.max(latest);
             (row, time, latest - time)
         });
-        let wanted = items.filter(|(row, _, _)| self.selection.holds(row));
-        wanted.map(move |(row, time, behind)| Item { row, time, behind, edge: edges.as_ref().and_then(|edges| edges.last(time)) })
+        let wanted = rows.filter(|(row, _, _)| self.view.selection.holds(row));
+        wanted.map(|(row, time, behind)| Item { row, time, behind, edge: self.edges.last(time) })
     }
 
-    /// The edges that times are counted from.
-    fn edges(&self, numbers: &[u32]) -> Option<Edges> {
-        self.since.as_ref().map(|since| since.edges(numbers))
+    /// The bins of so many microseconds that hold events, in the order of time. They are counted from the last edge, before the first one from the time
+    /// that is asked from; so the last edge before a bin is that before its events.
+    pub fn bins(&self, microseconds: u64) -> Result<Vec<Bin>, Lack> {
+        let mut bins: Vec<Bin> = vec![];
+        for Item { time, edge, .. } in self.items() {
+            let origin = edge.map_or(self.view.selection.from, |edge| edge.time);
+            let start = time - (time - origin) % microseconds;
+            match bins.last_mut() {
+                Some((last, count)) if *last == start => *count += 1,
+                _ => pushed(&mut bins, (start, 1))?,
+            }
+        }
+        // a recording need not be in the order of time
+        bins.sort_unstable();
+        bins.dedup_by(|(start, more), (kept, count)| {
+            let same = start == kept;
+            *count += if same { *more } else { 0 };
+            same
+        });
+        Ok(bins)
     }
 
     /// What is said where times are to be counted from edges that the recording does not have.
-    pub fn lack_of_edges(&self, numbers: &[u32]) -> Option<String> {
-        let since = self.since.as_ref().filter(|since| since.edges(numbers).is_empty())?;
+    pub fn lack_of_edges(&self) -> Option<String> {
+        let since = self.view.since.as_ref().filter(|_| self.edges.is_empty())?;
         Some(format!("note: there is no {} in what was read, so that no time counts from one", since.title()))
-    }
-
-    /// The bins of so many microseconds that hold an event, by the time at which they begin. Bins are counted from the last edge, before the first
-    /// one from the time that is asked from.
-    pub fn filled(&self, microseconds: u64, numbers: &[u32]) -> BTreeMap<u64, Bin> {
-        let mut bins = BTreeMap::new();
-        for Item { time, edge, .. } in self.items(numbers) {
-            let origin = edge.map_or(self.selection.from, |edge| edge.time);
-            let start = time - (time - origin) % microseconds;
-            bins.entry(start).or_insert(Bin { edge, count: 0 }).count += 1;
-        }
-        bins
     }
 }

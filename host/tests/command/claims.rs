@@ -19,7 +19,11 @@ const CASES: &[(&str, &str, &str)] = &[
     ("% camera_model EVT2 3.0\n% events evt 2.0\n", "raw-evt3", ""),
     ("% Data file containing CD events\n", "dat", ""),
     ("% evt 3.0\n", "raw-evt2", "line 1 of the file says: % evt 3.0|raw-evt2 (RAW file of EVT2 words)|name --format raw-evt3"),
-    ("% a\n% data_format evt 2.0\n", "raw-evt3", "line 2 of the file says: % data_format evt 2.0|raw-evt3 (RAW file of EVT3 words)|name --format raw-evt2"),
+    (
+        "% a\n% data_format evt 2.0\n",
+        "raw-evt3",
+        "line 2 of the file says: % data_format evt 2.0|raw-evt3 (RAW file of EVT3 words)|name --format raw-evt2",
+    ),
     ("% evt 2.1\n", "raw-evt2", "line 1 of the file says: % evt 2.1|raw-evt2 (RAW file of EVT2 words)|EVT2.1 is not read; READ"),
     ("% evt 2.1\n", "raw-evt3", "line 1 of the file says: % evt 2.1|raw-evt3 (RAW file of EVT3 words)|EVT2.1 is not read; READ"),
     (
@@ -28,9 +32,17 @@ const CASES: &[(&str, &str, &str)] = &[
         "line 2 of the file says: % format EVT21;height=720;width=1280|raw-evt3 (RAW file of EVT3 words)|EVT2.1 is not read; READ",
     ),
     ("% evt 4.0\n", "raw-evt3", "line 1 of the file says: % evt 4.0|raw-evt3 (RAW file of EVT3 words)|EVT4 is not read; READ"),
-    ("% format EVT4;width=5\n", "raw-evt2", "line 1 of the file says: % format EVT4;width=5|raw-evt2 (RAW file of EVT2 words)|EVT4 is not read; READ"),
+    (
+        "% format EVT4;width=5\n",
+        "raw-evt2",
+        "line 1 of the file says: % format EVT4;width=5|raw-evt2 (RAW file of EVT2 words)|EVT4 is not read; READ",
+    ),
     ("% format HISTO3D;x\n", "raw-evt2", "line 1 of the file says: % format HISTO3D;x|raw-evt2 (RAW file of EVT2 words)|HISTO3D is not read; READ"),
-    ("% Data file containing CD events\n", "raw-evt2", "line 1 of the file says: % Data file containing CD events|raw-evt2 (RAW file of EVT2 words)|name --format dat"),
+    (
+        "% Data file containing CD events\n",
+        "raw-evt2",
+        "line 1 of the file says: % Data file containing CD events|raw-evt2 (RAW file of EVT2 words)|name --format dat",
+    ),
     ("% evt 3.0\n", "dat", "line 1 of the file says: % evt 3.0|dat (DAT file)|name --format raw-evt3"),
     ("% evt 3.0\n", "aedat", "line 1 of the file says: % evt 3.0|aedat (AEDAT 3.1 file)|name --format raw-evt3"),
     ("#!AER-DAT3.1\r\n", "raw-evt3", "line 1 of the file says: #!AER-DAT3.1|raw-evt3 (RAW file of EVT3 words)|name --format aedat"),

@@ -114,8 +114,7 @@ fn refused() -> [(Vec<u8>, &'static str, &'static str, String); 7] {
     let unwritable = "refused 12: a bad row, or one that the format cannot write";
     let imu = "65 µs IMU counts acceleration x 1.000000 y -2.000000 z 0.000000 g rotation x 1.000000 y 0.000000 z -0.007634 °/s";
     let back = "refused 5: a time goes back, is negative or passes the limit";
-    let order =
-        "what to do: rows are written in the order of time alone, and those of this recording are not in it: use them as `rows` prints them";
+    let order = "what to do: rows are written in the order of time alone, and those of this recording are not in it: use them as `rows` prints them";
     let step_back = evt3::bytes_of(&[0x8001, 0x6002, 0xa001, 0x6001, 0xa000]);
     let special = [aedat::START, aedat::END, &aedat::packet(aedat::SPECIAL, 0, &[aedat::special(7, 5, 9)])].concat();
     [

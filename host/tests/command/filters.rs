@@ -79,7 +79,8 @@ fn every_filter_alone_and_every_two() {
                     continue;
                 }
                 // from a time up to the same one
-                let empty = first.starts_with("--from ") && second.starts_with("--until ") || first.starts_with("--until ") && second.starts_with("--from");
+                let empty =
+                    first.starts_with("--from ") && second.starts_with("--until ") || first.starts_with("--until ") && second.starts_with("--from");
                 if empty || first.contains("--from=") && second.contains("--until ") {
                     continue;
                 }
@@ -87,7 +88,13 @@ fn every_filter_alone_and_every_two() {
                 let run = run_on(&folder, &bytes, &arguments("rows", format, &options)).good();
                 let wanted: Vec<_> = rows.iter().filter(|row| holds(row) && also(row)).cloned().collect();
                 assert_eq!(rows_of(run.text()), wanted, "{options} of {format}");
-                let sort = if wanted.is_empty() { 0 } else if wanted.len() == rows.len() { 2 } else { 1 };
+                let sort = if wanted.is_empty() {
+                    0
+                } else if wanted.len() == rows.len() {
+                    2
+                } else {
+                    1
+                };
                 reached[sort] += 1;
             }
         }
@@ -142,7 +149,9 @@ fn columns() {
         let mut lines = all.lines();
         assert_eq!(lines.next(), Some("time_us x y polarity camera channel edge kind"));
         for (line, row) in lines.by_ref().zip(&rows) {
-            let data = |kind, places: &[usize]| places.iter().map(|&at| if row[0] == kind { row[at].to_string() } else { "-".to_string() }).collect::<Vec<_>>().join(" ");
+            let data = |kind, places: &[usize]| {
+                places.iter().map(|&at| if row[0] == kind { row[at].to_string() } else { "-".to_string() }).collect::<Vec<_>>().join(" ")
+            };
             assert_eq!(line, format!("{} {} {} {}", time(row), data(1, &[3, 4, 5, 6]), data(2, &[3, 4]), row[0]));
         }
         assert_eq!((all.lines().count(), lines.next()), (rows.len() + 1, None));
@@ -186,21 +195,30 @@ fn since_an_edge() {
         for (edge, channel, rising) in EDGES {
             let of = |command: &str, options: &str| run_on(&folder, &bytes, &arguments(command, format, &format!("--since {edge}{options}")));
             let all: Vec<_> = rows.iter().map(|row| since(&rows, row, channel, rising)).collect();
-            let lines: String = rows.iter().zip(&all).map(|(row, since)| format!("{} {}\n", row.iter().map(u64::to_string).collect::<Vec<_>>().join(" "), cell(*since))).collect();
+            let lines: String = rows
+                .iter()
+                .zip(&all)
+                .map(|(row, since)| format!("{} {}\n", row.iter().map(u64::to_string).collect::<Vec<_>>().join(" "), cell(*since)))
+                .collect();
             let run = of("rows", "");
             let noted = run.stderr.starts_with("note: there is no ") && run.stderr.ends_with(" in what was read, so that no time counts from one\n");
             assert_eq!((run.text() == lines, noted), (true, all.iter().all(Option::is_none)), "{edge} of {format}: {}", run.stderr);
             reached += all.iter().flatten().count();
             // where a filter leaves the triggers out, and in a column of its own
             let pixels = of("rows", " --kind pixel --columns since_us,x");
-            let wanted: String = rows.iter().zip(&all).filter(|(row, _)| row[0] == 1).map(|(row, since)| format!("{} {}\n", cell(*since), row[3])).collect();
+            let wanted: String =
+                rows.iter().zip(&all).filter(|(row, _)| row[0] == 1).map(|(row, since)| format!("{} {}\n", cell(*since), row[3])).collect();
             assert_eq!(pixels.text(), wanted, "{edge} of {format}");
             let (least, most) = (all.iter().flatten().min(), all.iter().flatten().max());
             let before = all.iter().filter(|since| since.is_none()).count();
             let span = least.zip(most).map_or("none".to_string(), |(least, most)| format!("{least} to {most} µs"));
             let info = of("info", "");
             let line = info.text().lines().find(|line| line.starts_with("time since the last ")).expect("a line on it");
-            let title = format!("{} edge of {}", ["falling", "rising"][rising as usize], channel.map_or("any channel".to_string(), |channel| format!("channel {channel}")));
+            let title = format!(
+                "{} edge of {}",
+                ["falling", "rising"][rising as usize],
+                channel.map_or("any channel".to_string(), |channel| format!("channel {channel}"))
+            );
             assert_eq!(line, format!("time since the last {title}: {span}; events before any such edge: {before}"));
         }
     }
@@ -215,7 +233,12 @@ fn since_an_edge_in_words() {
     assert_eq!(lines[0], "66 µs pixel x 5 y 3 brighter camera 0, 2 µs after the rising edge of channel 6");
     assert_eq!(lines[1], "64 µs trigger channel 6 rising, out of order by 2 µs, 0 µs after the rising edge of channel 6");
     assert!(lines[2].ends_with(" °/s, out of order by 1 µs, 1 µs after the rising edge of channel 6"));
-    let run = run_on(&folder("since-none"), &two_cameras(), &["rows", "recording", "--format=evt3", "--events", "--since", "trigger:1:falling", "--until=4099", "--camera=0"]).good();
+    let run = run_on(
+        &folder("since-none"),
+        &two_cameras(),
+        &["rows", "recording", "--format=evt3", "--events", "--since", "trigger:1:falling", "--until=4099", "--camera=0"],
+    )
+    .good();
     assert_eq!(run.text(), "4098 µs pixel x 5 y 3 brighter camera 0, before any such edge\n");
 }
 
@@ -267,7 +290,11 @@ fn triggers_in_info() {
         let line = |time: u16| format!("    {time} µs trigger channel 0 rising\n");
         let all: String = match count {
             0..=200 => (0..count).map(line).collect(),
-            _ => (0..100).map(line).chain([format!("    and {} more, up to the last 100:\n", count - 200)]).chain((count - 100..count).map(line)).collect(),
+            _ => (0..100)
+                .map(line)
+                .chain([format!("    and {} more, up to the last 100:\n", count - 200)])
+                .chain((count - 100..count).map(line))
+                .collect(),
         };
         assert_eq!(listed, all, "{count}");
     }

@@ -194,6 +194,17 @@ fn both_sides_said_and_neither() {
     }
 }
 
+/// A header of a great many lines is shown by its first ones.
+#[test]
+fn a_header_of_many_lines() {
+    let folder = folder("many-lines");
+    for (count, hidden) in [(1_000, ""), (1_001, "    and 1 more lines\n"), (300_000, "    and 299000 more lines\n")] {
+        let run = run_on(&folder, "% a line\n".repeat(count).as_bytes(), &["info", "recording", "--format", "raw-evt2"]).good();
+        let begin = format!("header: the data begin at byte {}\n", 9 * count);
+        assert!(run.text().contains(&format!("{begin}{}{hidden}picture width", "    % a line\n".repeat(1_000))), "{count}");
+    }
+}
+
 #[test]
 fn what_was_finished_before_a_refusal() {
     let folder = folder("info-refused");

@@ -162,6 +162,12 @@ fn memory_that_ends_anywhere() {
         };
         assert!(matches!(run.status, Some(0 | 1)), "{kibibytes} KiB: {}", run.stderr);
         assert_eq!(run.text().lines().count(), rows, "{kibibytes} KiB: {}", run.stderr);
+        // also where triggers and bins are kept beside the rows
+        for command in ["rows", "info"] {
+            let run = run_within(&folder, kibibytes, &[command, "recording", "--format=dat", "--bins=1", "--since=trigger"]);
+            let refused = run.stderr.contains("not enough memory: the system refused ");
+            assert_eq!((run.status, run.stderr.contains("panicked")), (Some(refused.into()), false), "{kibibytes} KiB: {}", run.stderr);
+        }
     }
 }
 
@@ -206,8 +212,13 @@ fn nowhere_to_write_or_read() {
     let folder = folder("closed");
     fs::write(folder.join("recording"), dat()).expect("a file for the test");
     let closed = "cannot write to standard output: it is closed\n";
-    let commands: [&[&str]; 5] =
-        [&["--help"], &["refusals"], &["info", "recording", "--format=dat"], &["rows", "recording", "--format=dat"], &["convert", "recording", "out", "--format=dat", "--to=evt2"]];
+    let commands: [&[&str]; 5] = [
+        &["--help"],
+        &["refusals"],
+        &["info", "recording", "--format=dat"],
+        &["rows", "recording", "--format=dat"],
+        &["convert", "recording", "out", "--format=dat", "--to=evt2"],
+    ];
     for arguments in commands {
         run_after(&folder, "exec >&-", arguments).failed(closed);
     }

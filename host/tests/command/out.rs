@@ -48,7 +48,11 @@ fn the_recording_is_never_replaced() {
             }
             // what stands behind it would grow
             let changed = "is where standard output goes: the recording would be changed, so nothing was done\n";
-            for (line, name) in [(to("-", force), "recording"), (vec!["rows", "link", "--format=evt2"], "link"), (vec!["info", "-", "--format=evt2"], "standard input")] {
+            for (line, name) in [
+                (to("-", force), "recording"),
+                (vec!["rows", "link", "--format=evt2"], "link"),
+                (vec!["info", "-", "--format=evt2"], "standard input"),
+            ] {
                 let opened = "exec < recording >> 'another name'";
                 // a user who may do everything can open a file that is write-protected
                 let run = run_after(&folder, opened, &line);
@@ -74,7 +78,8 @@ fn a_file_that_is_there() {
         assert_eq!(written(&folder, "out"), b"as it was");
     }
     // it is told before anything is read
-    run(&folder, &["convert", "not there", "out", "--format", "evt2", "--to", "evt2"]).failed("cannot read not there: No such file or directory (os error 2)\n");
+    run(&folder, &["convert", "not there", "out", "--format", "evt2", "--to", "evt2"])
+        .failed("cannot read not there: No such file or directory (os error 2)\n");
     run_on(&folder, &in_order()[..5], &to("out", &[])).declined(&there("out"));
     // by force it is replaced, and a link to it stays one
     convert(&folder, "link", &["--force"]).good();
@@ -207,7 +212,8 @@ fn stopped(folder: &Path, line: &str) -> Child {
     let line = format!("{line}exec \"$0\" \"$@\"");
     let arguments = ["-c", &line, BINARY, "convert", "recording", "out", "--format=dat", "--to=evt2", "--force"];
     for _ in 0..100 {
-        let mut child = Command::new("sh").current_dir(folder).args(arguments).stdin(Stdio::null()).stdout(Stdio::null()).spawn().expect("the command runs");
+        let mut child =
+            Command::new("sh").current_dir(folder).args(arguments).stdin(Stdio::null()).stdout(Stdio::null()).spawn().expect("the command runs");
         while child.try_wait().expect("its state").is_none() && !has_part(folder) {}
         signal("STOP", &child);
         if has_part(folder) {
@@ -259,7 +265,8 @@ fn names_of_files() {
         run(&folder, &["rows", name, "--format=dat"]).failed(&format!("cannot read {shown}: No such file or directory (os error 2)\n"));
         fs::write(folder.join("recording"), evt2_words()).expect("a file");
         fs::write(folder.join(name), in_order()).expect("a file");
-        convert(&folder, name, &[]).declined(&format!("{shown} is there already, and stays as it is; name another file, or add --force to replace it\n"));
+        convert(&folder, name, &[])
+            .declined(&format!("{shown} is there already, and stays as it is; name another file, or add --force to replace it\n"));
         let info = run(&folder, &["info", name, "--format=evt2"]).good();
         assert_eq!(info.text().lines().next(), Some(format!("file: {shown}").as_str()));
         let report = convert(&folder, name, &["--force"]).good();

@@ -49,8 +49,21 @@ fn options_in_the_help() {
 }
 
 const OPTIONS: [&str; 15] = [
-    "--format", "--width", "--height", "--force", "--from", "--until", "--kind", "--region", "--camera", "--since", "--bins", "--events", "--columns",
-    "--header", "--to",
+    "--format",
+    "--width",
+    "--height",
+    "--force",
+    "--from",
+    "--until",
+    "--kind",
+    "--region",
+    "--camera",
+    "--since",
+    "--bins",
+    "--events",
+    "--columns",
+    "--header",
+    "--to",
 ];
 
 /// Messages and help name the command as it was called.

@@ -120,5 +120,10 @@ fn most_words() {
 #[test]
 fn faults_as_text() {
     let fault = |refusal, row| RowFault { refusal: Refusal(refusal), row }.to_string();
-    assert_eq!([fault(12, 3), fault(5, 0), fault(13, 0)], ["refusal 12 at row 3", "refusal 5 at row 0", "refusal 13"]);
+    let texts = [
+        "refusal 12 at row 3: a bad row, or one that the format cannot write",
+        "refusal 5 at row 0: a time goes back, is negative or passes the limit",
+        "refusal 13: a list whose length is no multiple of ten, or over 16777216 rows",
+    ];
+    assert_eq!([fault(12, 3), fault(5, 0), fault(13, 0)], texts);
 }

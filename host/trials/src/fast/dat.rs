@@ -1,6 +1,6 @@
 //! The reader of DAT files.
-use super::{header, Row, BAD_HEADER, CUT, NO_ROOM, OUTSIDE, TIME};
-use fryskelom::{Fault, Header};
+use super::{header, Row};
+use fryskelom::{Fault, Header, Refusal};
 
 const SIDE: u32 = 16_384;
 
@@ -12,8 +12,8 @@ pub fn read(bytes: &[u8], rows: &mut [u32]) -> Result<usize, Fault> {
     let fault = |refusal, rows, place| Err(Fault { refusal, rows, place });
     let events = match bytes[data..].split_first_chunk() {
         Some((&TYPE_AND_SIZE, events)) => events,
-        Some(_) => return fault(BAD_HEADER, 0, data),
-        None => return fault(CUT, 0, data),
+        Some(_) => return fault(Refusal::BAD_HEADER, 0, data),
+        None => return fault(Refusal::CUT, 0, data),
     };
     let (events, part) = events.as_chunks();
     let (rows, _): (&mut [Row], _) = rows.as_chunks_mut();
@@ -25,20 +25,20 @@ pub fn read(bytes: &[u8], rows: &mut [u32]) -> Result<usize, Fault> {
         let (time, word) = (event as u32, (event >> 32) as u32);
         let (x, y, polarity) = (word & 0x3fff, word >> 14 & 0x3fff, word >> 28);
         let refusal = if time < last {
-            TIME
+            Refusal::BAD_TIME
         } else if x >= width || y >= height || polarity > 1 {
-            OUTSIDE
+            Refusal::OUTSIDE
         } else if let Some(row) = rows.next() {
             *row = [1, time, 0, x, y, polarity, 0, 0, 0, 0];
             last = time;
             continue;
         } else {
-            NO_ROOM
+            Refusal::NO_ROOM
         };
         return fault(refusal, index, data + 2 + 8 * index);
     }
     match part {
         [] => Ok(events.len()),
-        _ => fault(CUT, events.len(), data + 2 + 8 * events.len()),
+        _ => fault(Refusal::CUT, events.len(), data + 2 + 8 * events.len()),
     }
 }

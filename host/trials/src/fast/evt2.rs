@@ -1,9 +1,8 @@
 //! The reader and the writer of EVT2 words.
-use super::{admit, fits, pixel, time_of, trigger, Never, Row, BAD_ROW, CUT, HIGH, NONE, NO_ROOM, OUTSIDE, RESERVED, TIME};
+use super::{admit, fits, pixel, time_of, trigger, Never, Row, HIGH, NONE};
 use fryskelom::{Fault, Refusal, RowFault};
 use std::slice::IterMut;
 
-const STRAY: Refusal = Refusal(8);
 
 type Word = [u8; 4];
 
@@ -26,7 +25,7 @@ pub fn read(bytes: &[u8], width: u32, height: u32, rows: &mut [u32]) -> Result<u
         let Some((&word, next)) = rest.split_first() else {
             match half {
                 [] => return Ok(room - reader.rows.len()),
-                _ => break at_first(CUT),
+                _ => break at_first(Refusal::CUT),
             }
         };
         match reader.word(u32::from_le_bytes(word), next) {
@@ -55,7 +54,7 @@ impl Reader<'_> {
             0xa => self.trigger(word).map_err(at_first)?,
             0xd => return self.imu(word, next),
             0xe | 0xf => {}
-            _ => return Err(at_first(RESERVED)),
+            _ => return Err(at_first(Refusal::RESERVED)),
         }
         Ok(next)
     }
@@ -63,7 +62,7 @@ impl Reader<'_> {
     #[inline(always)]
     fn time_high(&mut self, high: u32) -> Result<(), Refusal> {
         if self.high.is_some_and(|previous| high < previous) {
-            return Err(TIME);
+            return Err(Refusal::BAD_TIME);
         }
         self.high = Some(high);
         Ok(())
@@ -80,16 +79,16 @@ impl Reader<'_> {
         let Some([low, high]) = self.time(word) else { return Ok(()) };
         let (x, y) = (word >> 11 & 0x7ff, word & 0x7ff);
         if x >= self.width || y >= self.height {
-            return Err(OUTSIDE);
+            return Err(Refusal::OUTSIDE);
         }
-        *self.rows.next().ok_or(NO_ROOM)? = [1, low, high, x, y, word >> 28, 0, 0, 0, 0];
+        *self.rows.next().ok_or(Refusal::NO_ROOM)? = [1, low, high, x, y, word >> 28, 0, 0, 0, 0];
         Ok(())
     }
 
     #[inline(always)]
     fn trigger(&mut self, word: u32) -> Result<(), Refusal> {
         let Some([low, high]) = self.time(word) else { return Ok(()) };
-        *self.rows.next().ok_or(NO_ROOM)? = [2, low, high, word >> 8 & 0x1f, word & 1, 0, 0, 0, 0, 0];
+        *self.rows.next().ok_or(Refusal::NO_ROOM)? = [2, low, high, word >> 8 & 0x1f, word & 1, 0, 0, 0, 0, 0];
         Ok(())
     }
 
@@ -97,7 +96,7 @@ impl Reader<'_> {
         let Some([low, high]) = self.time(word) else { return Ok(next) };
         let (continued, next) = continued(next)?;
         let [b, c, d, e, f] = continued.map(|word| u32::from_le_bytes(word) >> 1 & 0xffff);
-        *self.rows.next().ok_or(at_first(NO_ROOM))? = [3, low, high, word >> 1 & 0xffff, b, c, d, e, f, 0];
+        *self.rows.next().ok_or(at_first(Refusal::NO_ROOM))? = [3, low, high, word >> 1 & 0xffff, b, c, d, e, f, 0];
         Ok(next)
     }
 }
@@ -107,9 +106,9 @@ impl Reader<'_> {
 fn continued(words: &[Word]) -> Result<([Word; 5], &[Word]), Stop> {
     let stray = words.iter().take(5).position(|word| word[3] < 0xf0);
     match (stray, words.split_first_chunk()) {
-        (Some(index), _) => Err((STRAY, 1 + index)),
+        (Some(index), _) => Err((Refusal::STRAY, 1 + index)),
         (None, Some((&group, next))) => Ok((group, next)),
-        (None, None) => Err(at_first(CUT)),
+        (None, None) => Err(at_first(Refusal::CUT)),
     }
 }
 
@@ -123,10 +122,10 @@ fn judge(rows: &[Row]) -> Result<usize, RowFault> {
     let (mut words, mut previous, mut clock) = (0, 0, None);
     for (index, row) in rows.iter().enumerate() {
         let fault = |refusal| RowFault { refusal, row: index };
-        let length = length(row).ok_or(fault(BAD_ROW))?;
+        let length = length(row).ok_or(fault(Refusal::BAD_ROW))?;
         let time = time_of(row);
         if time < previous {
-            return Err(fault(TIME));
+            return Err(fault(Refusal::BAD_TIME));
         }
         words += length + usize::from(clock != Some(time >> 6));
         (previous, clock) = (time, Some(time >> 6));

@@ -1,5 +1,5 @@
 //! The reader and the writer of EVT3 words.
-use super::{admit, fits, pixel, time_of, trigger, Never, Row, BAD_ROW, CUT, NO_ROOM, OUTSIDE, RESERVED, SIDE, TIME};
+use super::{admit, fits, pixel, time_of, trigger, Never, Row, SIDE};
 use fryskelom::{Fault, Refusal, RowFault};
 use std::slice::IterMut;
 
@@ -24,7 +24,7 @@ pub fn read(bytes: &[u8], width: u32, height: u32, rows: &mut [u32]) -> Result<u
     let finished = room - reader.rows.len();
     match half {
         [] => Ok(finished),
-        _ => fault(CUT, finished, 2 * words.len()),
+        _ => fault(Refusal::CUT, finished, 2 * words.len()),
     }
 }
 
@@ -59,7 +59,7 @@ impl Reader<'_> {
             0x8 => return self.time_high(data),
             0xa => return self.trigger(data >> 8, data & 1),
             0x7 | 0xe | 0xf => {}
-            _ => return Err(RESERVED),
+            _ => return Err(Refusal::RESERVED),
         }
         Ok(())
     }
@@ -75,7 +75,7 @@ impl Reader<'_> {
     fn time_high(&mut self, high: u32) -> Result<(), Refusal> {
         if let Some(drop @ 1..) = self.high.map(|previous| previous.saturating_sub(high)) {
             if drop < WRAP || self.wraps == MOST_WRAPS {
-                return Err(TIME);
+                return Err(Refusal::BAD_TIME);
             }
             self.wraps += 1;
         }
@@ -87,9 +87,9 @@ impl Reader<'_> {
     fn pixel(&mut self, x: u32, polarity: u32) -> Result<(), Refusal> {
         let (Some([low, high]), Some(y)) = (self.time, self.y) else { return Ok(()) };
         if x >= self.width || y >= self.height {
-            return Err(OUTSIDE);
+            return Err(Refusal::OUTSIDE);
         }
-        *self.rows.next().ok_or(NO_ROOM)? = [1, low, high, x, y, polarity, self.camera, 0, 0, 0];
+        *self.rows.next().ok_or(Refusal::NO_ROOM)? = [1, low, high, x, y, polarity, self.camera, 0, 0, 0];
         Ok(())
     }
 
@@ -98,11 +98,11 @@ impl Reader<'_> {
         let Some((x, polarity)) = self.base else { return Ok(()) };
         if let (Some([low, high]), Some(y), Some(last)) = (self.time, self.y, bits.checked_ilog2()) {
             if x + last >= self.width || y >= self.height {
-                return Err(OUTSIDE);
+                return Err(Refusal::OUTSIDE);
             }
             let pixels = bits.count_ones() as usize;
             if pixels > self.rows.len() {
-                return Err(NO_ROOM);
+                return Err(Refusal::NO_ROOM);
             }
             for row in self.rows.by_ref().take(pixels) {
                 *row = [1, low, high, x + bits.trailing_zeros(), y, polarity, self.camera, 0, 0, 0];
@@ -116,7 +116,7 @@ impl Reader<'_> {
     #[inline(always)]
     fn trigger(&mut self, channel: u32, edge: u32) -> Result<(), Refusal> {
         let Some([low, high]) = self.time else { return Ok(()) };
-        *self.rows.next().ok_or(NO_ROOM)? = [2, low, high, channel, edge, 0, 0, 0, 0, 0];
+        *self.rows.next().ok_or(Refusal::NO_ROOM)? = [2, low, high, channel, edge, 0, 0, 0, 0, 0];
         Ok(())
     }
 }
@@ -147,15 +147,15 @@ fn judge(rows: &[Row]) -> Result<usize, RowFault> {
     let (mut base, mut vector) = (0, false);
     for (index, row) in rows.iter().enumerate() {
         let fault = |refusal| RowFault { refusal, row: index };
-        let never = KINDS.get((row[0] as usize).wrapping_sub(1)).ok_or(fault(BAD_ROW))?;
+        let never = KINDS.get((row[0] as usize).wrapping_sub(1)).ok_or(fault(Refusal::BAD_ROW))?;
         if !fits(row, never) {
-            return Err(fault(BAD_ROW));
+            return Err(fault(Refusal::BAD_ROW));
         }
         let &[kind, _, _, x, ..] = row;
         if !joins(last, row) {
             let now = time_of(row) as i64;
             if now < time {
-                return Err(fault(TIME));
+                return Err(fault(Refusal::BAD_TIME));
             }
             words += 1 + time_words(time, now);
             time = now;

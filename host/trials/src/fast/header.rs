@@ -1,6 +1,6 @@
 //! The text header of RAW and DAT files.
-use super::{BAD_HEADER, CUT, MOST_BYTES, TOO_LONG};
-use fryskelom::{Fault, Header};
+use super::MOST_BYTES;
+use fryskelom::{Fault, Header, Refusal};
 
 /// The bytes of a line after its first two.
 const MOST_TEXT: usize = 254;
@@ -8,20 +8,20 @@ const MOST_TEXT: usize = 254;
 /// Does what `fryskelom::read_header` does.
 pub fn read(bytes: &[u8], limit: u32) -> Result<Header, Fault> {
     if bytes.len() > MOST_BYTES {
-        return Err(Fault { refusal: TOO_LONG, rows: 0, place: 0 });
+        return Err(Fault { refusal: Refusal::TOO_LONG, rows: 0, place: 0 });
     }
     let (mut data, mut width, mut height) = (0, None, None);
     while let [b'%', b' ', text @ ..] = &bytes[data..] {
         let fault = |refusal| Fault { refusal, rows: 0, place: data };
         let text = &text[..text.len().min(MOST_TEXT)];
         let Some(end) = text.iter().position(|&byte| byte == b'\n') else {
-            return Err(fault(if text.len() < MOST_TEXT { CUT } else { BAD_HEADER }));
+            return Err(fault(if text.len() < MOST_TEXT { Refusal::CUT } else { Refusal::BAD_HEADER }));
         };
         let text = &text[..end];
         for (keyword, side) in [(&b"width"[..], &mut width), (b"height", &mut height)] {
             if let Some(value) = value_of(text, keyword) {
                 let number = number(value).filter(|&number| side.is_none() && number != 0 && number <= limit);
-                *side = Some(number.ok_or(fault(BAD_HEADER))?);
+                *side = Some(number.ok_or(fault(Refusal::BAD_HEADER))?);
             }
         }
         data += 3 + end;

@@ -8,16 +8,6 @@ pub mod evt2;
 pub mod evt3;
 pub mod header;
 
-const TOO_LONG: Refusal = Refusal(1);
-const NO_ROOM: Refusal = Refusal(2);
-const RESERVED: Refusal = Refusal(3);
-const CUT: Refusal = Refusal(4);
-const TIME: Refusal = Refusal(5);
-const OUTSIDE: Refusal = Refusal(6);
-const BAD_HEADER: Refusal = Refusal(9);
-const BAD_ROW: Refusal = Refusal(12);
-const NO_LIST: Refusal = Refusal(13);
-const NO_PICTURE: Refusal = Refusal(14);
 
 const MOST_BYTES: usize = 1 << 30;
 const MOST_ROWS: usize = 1 << 24;
@@ -27,10 +17,10 @@ const SIDE: u32 = 2_048;
 fn admit(bytes: &[u8], width: u32, height: u32) -> Result<(), Fault> {
     let fault = |refusal| Err(Fault { refusal, rows: 0, place: 0 });
     if bytes.len() > MOST_BYTES {
-        return fault(TOO_LONG);
+        return fault(Refusal::TOO_LONG);
     }
     if !(1..=SIDE).contains(&width) || !(1..=SIDE).contains(&height) {
-        return fault(NO_PICTURE);
+        return fault(Refusal::BAD_PICTURE);
     }
     Ok(())
 }
@@ -46,12 +36,12 @@ fn write<const N: usize>(
 ) -> Result<usize, RowFault> {
     let (rows, rest) = rows.as_chunks();
     if !rest.is_empty() || rows.len() > MOST_ROWS {
-        return Err(RowFault { refusal: NO_LIST, row: 0 });
+        return Err(RowFault { refusal: Refusal::BAD_LIST, row: 0 });
     }
     let words = judge(rows)?;
     match out.as_chunks_mut().0.get_mut(..words) {
         Some(out) => spell(rows, out),
-        None => return Err(RowFault { refusal: NO_ROOM, row: 0 }),
+        None => return Err(RowFault { refusal: Refusal::NO_ROOM, row: 0 }),
     }
     Ok(words)
 }

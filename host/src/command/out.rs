@@ -4,7 +4,7 @@ use super::recording::Input;
 use super::{signals, standard, Failure};
 use std::ffi::OsStr;
 use std::fs::{self, File, Metadata};
-use std::io::{self, ErrorKind, Write};
+use std::io::{self, ErrorKind, IsTerminal, Write};
 use std::os::unix::fs::{fchown, FileTypeExt, MetadataExt};
 use std::path::{Path, PathBuf};
 use std::process;
@@ -27,15 +27,19 @@ enum Place {
 impl Out {
     /// Looks whether it can be written to, before anything is read.
     pub fn new(path: &OsStr, input: &Input, force: bool) -> Result<Out, Failure> {
-        let (name, place) = match STANDARD.iter().any(|standard| path == *standard) {
-            true => ("to standard output".to_string(), Place::Standard),
-            false => (shown(path), place(Path::new(path)).map_err(|error| unwritable(&shown(path), &error))?),
-        };
+        if STANDARD.iter().any(|standard| path == *standard) {
+            return match force || !io::stdout().is_terminal() {
+                true => Ok(Out { name: "to standard output".to_string(), place: Place::Standard, force }),
+                false => Err(Failure::Declined("words are no text for a terminal; name a file, or add --force".to_string())),
+            };
+        }
+        let (name, path) = (shown(path), Path::new(path));
+        if fs::metadata(path).is_ok_and(|old| input.is(&old)) {
+            return Err(Failure::Declined(format!("{name} is the recording itself, which is never changed; name another file")));
+        }
+        let place = place(path).map_err(|error| unwritable(&name, &error))?;
         let out = Out { name, place, force };
         if let Place::File(path) = &out.place {
-            if fs::metadata(path).is_ok_and(|old| input.is(&old)) {
-                return Err(Failure::Declined(format!("{} is the recording itself, which is never replaced; name another file", out.name)));
-            }
             out.permitted(path)?;
         }
         Ok(out)
@@ -79,20 +83,27 @@ impl Out {
     /// Writes beside the file, and gives it its name at the end.
     fn write_file(&self, path: &Path, bytes: &[u8]) -> Result<(), Failure> {
         let part = part_of(path);
-        let made = signals::remove_at_end(&part).and_then(|()| File::create_new(&part)).map_err(|error| self.failed(&error))?;
-        let written = self.write_part(made, &part, path, bytes).inspect_err(|_| drop(fs::remove_file(&part)));
+        let made = signals::remove_at_end(&part).and_then(|()| File::create_new(&part)).map_err(|error| self.failed(&error));
+        let written = made.and_then(|file| self.write_part(file, &part, path, bytes).inspect_err(|_| drop(fs::remove_file(&part))));
         signals::leave();
         written
     }
 
     fn write_part(&self, mut file: File, part: &Path, path: &Path, bytes: &[u8]) -> Result<(), Failure> {
+        self.like_old(&file, path)?;
         file.write_all(bytes).map_err(|error| self.failed(&error))?;
-        // it may have come while the recording was read
-        if let Some(old) = self.permitted(path)? {
-            keep_owner_and_mode(&file, &old).map_err(|error| self.failed(&error))?;
-        }
+        // one may have come meanwhile
+        self.like_old(&file, path)?;
         // on the disk first, so that no name is given to a file whose bytes may be lost
         file.sync_all().and_then(|()| fs::rename(part, path)).map_err(|error| self.failed(&error))
+    }
+
+    /// Gives a new file the owner and the mode of the one that it is to replace.
+    fn like_old(&self, file: &File, path: &Path) -> Result<(), Failure> {
+        match self.permitted(path)? {
+            Some(old) => keep_owner_and_mode(file, &old).map_err(|error| self.failed(&error)),
+            None => Ok(()),
+        }
     }
 
     fn failed(&self, error: &io::Error) -> Failure {
@@ -107,18 +118,20 @@ const STANDARD: [&str; 4] = ["-", "/dev/stdout", "/dev/fd/1", "/proc/self/fd/1"]
 fn place(path: &Path) -> io::Result<Place> {
     let kind = match fs::metadata(path) {
         Ok(metadata) => metadata.file_type(),
-        Err(error) if error.kind() == ErrorKind::NotFound && fs::symlink_metadata(path).is_ok() => {
-            return Err(other("it is a link that leads nowhere"))
-        }
-        Err(error) if error.kind() == ErrorKind::NotFound => return new_file(path),
-        Err(error) => return Err(error),
+        Err(error) if error.kind() != ErrorKind::NotFound => return Err(error),
+        Err(_) if fs::symlink_metadata(path).is_ok() => return Err(other("it is a link that leads nowhere")),
+        Err(_) => return new_file(path),
     };
-    match () {
-        _ if kind.is_dir() => Err(other("it is a folder; name a file in it")),
-        _ if kind.is_block_device() => Err(other("it is a disk, which is never written to; name a file")),
-        _ if !kind.is_file() || is_descriptor(path) => Ok(Place::Stream(path.to_path_buf())),
+    if kind.is_dir() {
+        return Err(other("it is a folder; name a file in it"));
+    }
+    if kind.is_block_device() {
+        return Err(other("it is a disk, which is never written to; name a file"));
+    }
+    match kind.is_file() && !is_descriptor(path) {
         // the file itself where the path is a link to it
-        _ => Ok(Place::File(fs::canonicalize(path)?)),
+        true => fs::canonicalize(path).map(Place::File),
+        false => Ok(Place::Stream(path.to_path_buf())),
     }
 }
 

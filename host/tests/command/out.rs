@@ -30,7 +30,7 @@ fn set_mode(path: PathBuf, mode: u32) {
 
 /// By its own name, by another one, through links, and as standard input or standard output; also by force, and where it is write-protected.
 #[test]
-fn the_recording_is_never_replaced() {
+fn the_recording_is_never_changed() {
     let folder = folder("same-file");
     fs::write(folder.join("recording"), in_order()).expect("a file");
     fs::hard_link(folder.join("recording"), folder.join("another name")).expect("a link");
@@ -41,24 +41,25 @@ fn the_recording_is_never_replaced() {
         let before = fs::metadata(folder.join("recording")).expect("it is there");
         for force in [&[][..], &["--force"]] {
             for out in ["recording", "./recording", "another name", "link"] {
-                let message = format!("{out} is the recording itself, which is never replaced; name another file\n");
+                let message = format!("{out} is the recording itself, which is never changed; name another file\n");
                 run(&folder, &to(out, force)).declined(&message);
                 let line = [&["convert", "-", out, "--format", "evt2", "--to", "evt2"], force].concat();
                 run_after(&folder, "exec < recording", &line).declined(&message);
             }
-            // what stands behind it would grow
-            let changed = "is where standard output goes: the recording would be changed, so nothing was done\n";
-            for (line, name) in [
-                (to("-", force), "recording"),
+        }
+        // where somebody has opened it to be written to, by a descriptor
+        if mode == 0o640 {
+            let opened = "exec < recording 3>> 'another name' >> 'another name'";
+            let itself = "/dev/fd/3 is the recording itself, which is never changed; name another file\n";
+            run_after(&folder, "exec 3>> 'another name'", &to("/dev/fd/3", &["--force"])).declined(itself);
+            let lines = [
+                (to("-", &["--force"]), "recording"),
                 (vec!["rows", "link", "--format=evt2"], "link"),
                 (vec!["info", "-", "--format=evt2"], "standard input"),
-            ] {
-                let opened = "exec < recording >> 'another name'";
-                // a user who may do everything can open a file that is write-protected
-                let run = run_after(&folder, opened, &line);
-                if mode == 0o640 {
-                    run.declined(&format!("{name} {changed}"));
-                }
+            ];
+            for (line, name) in lines {
+                let goes = "is where standard output goes: the recording would be changed, so nothing was done\n";
+                run_after(&folder, opened, &line).declined(&format!("{name} {goes}"));
             }
         }
         let after = fs::metadata(folder.join("recording")).expect("it is there");
@@ -189,6 +190,22 @@ fn streams() {
         drop(full);
         convert(&folder, "/dev/full", &[]).failed("cannot write /dev/full: No space left on device (os error 28)\n");
     }
+}
+
+/// On a terminal words are shown by force alone.
+#[test]
+fn a_terminal() {
+    let folder = folder("convert-terminal");
+    fs::write(folder.join("recording"), in_order()).expect("a file");
+    let shown = |force: &str| {
+        let line = format!("{BINARY} convert recording - --format evt2 --to evt2 {force}");
+        let output =
+            Command::new("script").args(["-qec", &line, "/dev/null"]).current_dir(&folder).stdin(Stdio::null()).output().expect("script runs");
+        (output.status.code(), output.stdout)
+    };
+    assert_eq!(shown(""), (Some(2), b"words are no text for a terminal; name a file, or add --force\r\n".to_vec()));
+    let (status, stdout) = shown("--force");
+    assert!(status == Some(0) && stdout.starts_with(&in_order()[..8]), "{stdout:?}");
 }
 
 /// Words that nobody takes are not written, unlike lines of `rows`, of which some are enough.

@@ -129,10 +129,7 @@ impl Claim {
             Says::Unread(title) => unread(title),
             says => format!("name {}", listed(names_that_say(says), "--format ", "or")),
         };
-        format!(
-            "{}\nthat is another format than {name} ({title})\nwhat to do: {advice}; --force reads the file as {name} all the same",
-            self.quoted()
-        )
+        format!("{}\nthat is not {name} ({title})\nwhat to do: {advice}; or add --force to read it as {name} all the same", self.quoted())
     }
 }
 

@@ -67,7 +67,7 @@ pub fn note(recording: &Recording, progress: &Progress) {
         [false, false] => "width or height",
     };
     let Header { width, height, .. } = header;
-    progress.note(&format!("note: the header of {} says no {unsaid}, so that a picture of {width} by {height} pixels was taken", recording.name));
+    progress.note(&format!("note: the header of {} gives no {unsaid}; a picture of {width} by {height} pixels was assumed", recording.name));
 }
 
 /// The lines of an AEDAT file up to the end line. A fault in the header lies at the start of its line, so that those before are good.

@@ -69,13 +69,13 @@ pub fn all() -> String {
     [
         "Reads recordings of event cameras.\n\n".to_string(),
         command("info FILE", "what a recording holds: header, picture, numbers of events, times and triggers"),
-        command("rows FILE", "its events, a line each: as numbers, in words, or how many there are from time to time"),
+        command("rows FILE", "its events, a line each, as numbers or in words; or how many there are in each bin of time"),
         command(&converting(), &format!("writes a recording anew as {} words", capitals(names_written()))),
         command("refusals", "why a recording is refused, by number, and what to do"),
         "\n".to_string(),
-        paragraph("FILE and IN are files, or - for standard input. Each command tells its own options: give it --help."),
+        paragraph("FILE and IN are files, or - for standard input. --help after a command lists its own options."),
         source(FORCED),
-        option("--help, -h", "this text, or after a command its own"),
+        option("--help, -h", "this text, or that of a command"),
         option("--version, -V", "the version"),
         option("--", "what follows is no option"),
         "\n".to_string(),
@@ -86,8 +86,8 @@ pub fn all() -> String {
             "A recording that breaks a rule is refused where it does: what was finished before is still shown, and the message says where and what to do.",
         ),
         paragraph(
-            "The exit status is 0 where all is well, 1 where a recording is refused or a file or memory is not to be had, 2 where the arguments are wrong or \
-             something is only done with --force.",
+            "The exit status is 0 if all is well, 1 if a recording is refused or a file or memory cannot be had, and 2 if the arguments are wrong or --force \
+             would be needed.",
         ),
         "For example:\n".to_string(),
         example("info gate.dat"),
@@ -98,7 +98,7 @@ pub fn all() -> String {
 }
 
 /// What `--force` does.
-const FORCED: &str = "reads a recording whose header says another format than --format all the same";
+const FORCED: &str = "read a recording even if it says itself that its format is another";
 
 /// The options that say what a recording is.
 fn source(forced: &str) -> String {
@@ -108,13 +108,13 @@ fn source(forced: &str) -> String {
         wrapped(
             &" ".repeat(INDENT),
             &format!(
-            "It is not needed where the name ends in {}. Of a RAW file you say which words it holds: what its header says is quoted where you leave \
-             it out, and held against what you say.",
+            "Not needed if the name ends in {}. For a RAW file you say which words it holds. If you leave it out, the line of the header that tells is \
+             quoted; if the header contradicts you, nothing is read.",
             listed(suffixes(), ".", "or")
         ),
         ),
-        option("--width N", &format!("the picture's pixels, with {} alone: 1 to 2048, and 2048 where left out", listed(bare(), "", "and"))),
-        option("--height N", "likewise"),
+        option("--width N", &format!("the picture's width in pixels, 1 to 2048, for {} only; 2048 if left out", listed(bare(), "", "and"))),
+        option("--height N", "its height likewise"),
         option("--force", forced),
     ]
     .concat()
@@ -123,16 +123,19 @@ fn source(forced: &str) -> String {
 /// The options that filter rows.
 fn filters() -> String {
     [
-        option("--from T", "at T microseconds or later"),
-        option("--until T", "before T microseconds, T not included"),
-        option("--kind KIND", &format!("of this kind: {}; several with commas between", listed(selection::kind_names(), "", "or"))),
-        option("--region X Y WIDTH HEIGHT", "pixels alone: in this part of the picture, whose first column is X and whose first line is Y"),
-        option("--camera N", "pixels alone: of camera 0 or 1"),
+        option("--from T", "only events at T microseconds or later"),
+        option("--until T", "only events before T microseconds"),
+        option(
+            "--kind KIND",
+            &format!("only events of this kind: {}; or of several, with commas between", listed(selection::kind_names(), "", "or")),
+        ),
+        option("--region X Y WIDTH HEIGHT", "only pixels in this part of the picture; X is its first column, Y its first line"),
+        option("--camera N", "only pixels of this camera, 0 or 1"),
     ]
     .concat()
 }
 
-const COMBINED: &str = "Filters, which can be combined; only what passes all of them is looked at:\n\n";
+const COMBINED: &str = "Filters, which can be combined; only events that pass all of them count:\n\n";
 
 pub fn info() -> String {
     [
@@ -149,7 +152,7 @@ pub fn info() -> String {
         paragraph("If the recording is refused, all this is of the part before; the refusal follows on standard error, and the status is 1."),
         COMBINED.to_string(),
         filters(),
-        "\nTo be summed up:\n\n".to_string(),
+        "\nSummed up too, if you ask:\n\n".to_string(),
         option("--since EDGE", &format!("the shortest and the longest time since the last edge; for EDGE see {} rows --help", called())),
         option("--bins MICROSECONDS", "how many bins of so many microseconds hold events, and the most in one"),
         "\n".to_string(),
@@ -179,31 +182,31 @@ pub fn rows() -> String {
         ),
         option(
             "--events",
-            "the same in words, with the time as one number, IMU readings in g, degrees a second and degrees Celsius, and a mark where a time is out of order: \
-             earlier than one before it. The point in a reading is a decimal point, with six decimals after it.",
+            "the same in words, with the time as one number, IMU readings in g, degrees a second and degrees Celsius, and a mark where a time is out of order, \
+             that is, earlier than one before it. The point in a reading is a decimal point, followed by six decimals.",
         ),
         option(
             "--columns NAMES",
             &format!(
-                "other numbers in place of the ten, with commas between their names: {}. time_us is the time as one number; - stands where an event has no \
-                 such number.",
+                "other columns than the ten, with commas between their names: {}. time_us is the time as one number. An event that has no such number \
+                 has - there.",
                 listed(columns::names(), "", "and")
             ),
         ),
-        option("--header", "the names of the columns above them"),
+        option("--header", "the names of the columns in a first line"),
         "\n".to_string(),
         COMBINED.to_string(),
         filters(),
         "\nTo time a relay:\n\n".to_string(),
         option(
             "--since EDGE",
-            "adds a column, since_us: the time since the last edge of a trigger, by time, whether or not the trigger passes the filters. EDGE is trigger, for \
-             rising edges of any channel, or trigger:CHANNEL, trigger:falling, trigger:CHANNEL:falling. - stands before the first edge.",
+            "adds a column, since_us: microseconds since the last edge of a trigger, whether or not the trigger passes the filters. EDGE is trigger (rising \
+             edges of any channel), trigger:CHANNEL, trigger:falling or trigger:CHANNEL:falling. Before the first edge there is - in the column.",
         ),
         option(
             "--bins MICROSECONDS",
-            "in place of rows, how many events there are in each bin of so many microseconds: the time at which it begins, the time since the edge with \
-             --since, and the number. Bins without events are left out. Bins are counted from the last edge with --since, else from T of --from or from 0.",
+            "instead of rows, a line for each bin of so many microseconds that holds events: the time at which it begins, with --since the time since the \
+             edge, and the number of events. Bins begin at the last edge with --since, otherwise at the T of --from, or at 0.",
         ),
         "\n".to_string(),
         paragraph("If the recording is refused, the rows before are printed; the refusal follows on standard error, and the status is 1."),
@@ -226,7 +229,7 @@ pub fn convert() -> String {
         COMBINED.to_string(),
         filters(),
         "\n".to_string(),
-        recording(&format!("replaces OUT where it is there already, but nothing that is write-protected, and never IN itself; {FORCED}")),
+        recording(&format!("replace OUT if it exists, unless it is write-protected, but never IN itself; write words to a terminal; {FORCED}")),
     ]
     .concat()
 }

@@ -42,7 +42,7 @@ fn about_rows(recording: &Recording, reading: &Reading, view: &View) -> Result<V
     let summary = Summary::of(looked.items());
     let part = if reading.stop.is_some() { " before the reading stopped" } else { "" };
     let mut lines = match view.selection.is_any() {
-        true => vec![format!("events: {} of {}{part}, by the filters that were given", summary.count, reading.rows())],
+        true => vec![format!("events: {} of {} pass the filters{part}", summary.count, reading.rows())],
         false => vec![format!("events: {}{part}", summary.count)],
     };
     lines.extend(summary.kinds());
@@ -84,7 +84,7 @@ fn triggers(looked: &Looked) -> Vec<String> {
         last.push_back(item);
     }
     let hidden = count - first.len() - last.len();
-    let between = (hidden > 0).then(|| format!("    and {hidden} more, up to the last {TRIGGERS}:"));
+    let between = (hidden > 0).then(|| format!("    and {hidden} more, and then the last {TRIGGERS}:"));
     let line = |item: &Item| format!("    {}", events::line_of(item, false));
     [format!("triggers: {count}")].into_iter().chain(first.iter().map(line)).chain(between).chain(last.iter().map(line)).collect()
 }

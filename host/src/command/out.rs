@@ -30,7 +30,7 @@ impl Out {
         if STANDARD.iter().any(|standard| path == *standard) {
             return match force || !io::stdout().is_terminal() {
                 true => Ok(Out { name: "to standard output".to_string(), place: Place::Standard, force }),
-                false => Err(Failure::Declined("words are no text for a terminal; name a file, or add --force".to_string())),
+                false => Err(Failure::Declined("words are binary and would garble the terminal; name a file, or add --force".to_string())),
             };
         }
         let (name, path) = (shown(path), Path::new(path));
@@ -54,7 +54,7 @@ impl Out {
         match self.force {
             true => replaceable(path, &old).map(|()| Some(old)).map_err(|error| self.failed(&error)),
             false => {
-                Err(Failure::Declined(format!("{} is there already, and stays as it is; name another file, or add --force to replace it", self.name)))
+                Err(Failure::Declined(format!("{} already exists and is left as it is; name another file, or add --force to replace it", self.name)))
             }
         }
     }

@@ -64,7 +64,7 @@ impl Input {
         let input = Input { name, file, metadata };
         if standard::output().and_then(|output| output.metadata()).is_ok_and(|output| input.is(&output)) {
             return Err(Failure::Declined(format!(
-                "{} is where standard output goes: the recording would be changed, so nothing was done",
+                "standard output goes into {} itself, and a recording is never changed; send it somewhere else",
                 input.name
             )));
         }

@@ -19,11 +19,11 @@ struct Rule {
 /// One for each refusal. What is left out is empty.
 const RULES: [Rule; Refusal::ALL.len()] = [
     Rule {
-        reading: "record in shorter parts, or cut the recording by time with a program of the camera's maker, as metavision_file_cutter cuts RAW files",
+        reading: "record in shorter parts, or cut the file by time with the camera maker's software (metavision_file_cutter for RAW files)",
         ..rule(Refusal::TOO_LONG)
     },
     Rule {
-        reading: "a program that calls the library lends a larger buffer: its documents say how large is always enough",
+        reading: "lend a larger buffer: the library's documents say how large is always enough",
         writing: "lend a larger buffer; nothing has been written",
         ..rule(Refusal::NO_ROOM)
     },
@@ -67,7 +67,7 @@ const RULES: [Rule; Refusal::ALL.len()] = [
         ..rule(Refusal::CLOCK_RESET)
     },
     Rule { writing: "write other words, leave such rows out by --kind, --region or --camera, or use the rows as `rows` prints them", ..rule(Refusal::BAD_ROW) },
-    Rule { writing: "write it in parts by time, to a file each: --until T for the first, then --from T", ..rule(Refusal::BAD_LIST) },
+    Rule { writing: "write it in parts, each to a file of its own: --until T for the first and --from T for the next", ..rule(Refusal::BAD_LIST) },
     Rule { reading: "give a width and a height from 1 to 2048, or leave them out", ..rule(Refusal::BAD_PICTURE) },
 ];
 
@@ -98,7 +98,7 @@ fn of_header(place: usize, recording: &Recording) -> String {
     let bytes = &recording.bytes;
     match recording.format.head {
         Head::Text(limit) if read_header(bytes, limit).is_ok() => format!(
-            "check first that it is a DAT file; after its header have to stand the bytes 0 and 8, the type and the size of its events, and there stand {} and {}",
+            "check first that it is a DAT file: its header must be followed by the bytes 0 and 8, the type and the size of its events, and here it is {} and {}",
             bytes[place],
             bytes[place + 1]
         ),
@@ -118,7 +118,7 @@ pub fn writing(fault: &RowFault, name: &str, numbers: &[u32]) -> String {
         // no row is at fault
         Refusal::BAD_LIST => (
             format!("{name} has {} rows, and at most {MOST_ROWS} can be written", numbers.len() / ROW_NUMBERS),
-            format!("{writing}, such as T {}", time_of(row_of(MOST_ROWS))),
+            format!("{writing}; here T may be {}", time_of(row_of(MOST_ROWS))),
         ),
         Refusal::BAD_ROW => (at(row, name, row_of(row)), format!("{writing}: {}", held())),
         _ => (at(row, name, row_of(row)), writing.to_string()),

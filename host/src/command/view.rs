@@ -93,6 +93,6 @@ impl<'a> Looked<'a> {
     /// What is said where times are to be counted from edges that the recording does not have.
     pub fn lack_of_edges(&self) -> Option<String> {
         let since = self.view.since.as_ref().filter(|_| self.edges.is_empty())?;
-        Some(format!("note: there is no {} in what was read, so that no time counts from one", since.title()))
+        Some(format!("note: no {} was read, so there is no time since one", since.title()))
     }
 }

@@ -69,7 +69,7 @@ fn against_a_format_that_was_named() {
         let [quoted, named, advice] = said.split('|').collect::<Vec<_>>()[..] else { panic!("{said}") };
         let message = |name: &str| {
             let advice = advice.replace("READ", READ);
-            format!("{name}: {quoted}\nthat is another format than {named}\nwhat to do: {advice}; --force reads the file as {format} all the same\n")
+            format!("{name}: {quoted}\nthat is not {named}\nwhat to do: {advice}; or add --force to read it as {format} all the same\n")
         };
         file.declined(&message("recording"));
         fed.declined(&message("standard input"));
@@ -127,8 +127,8 @@ fn where_no_format_is_named() {
 fn a_suffix_against_the_file() {
     let folder = folder("suffix-against");
     fs::write(folder.join("a.dat"), raw("3.0", &evt3_words())).expect("a file");
-    let message = "a.dat: line 1 of the file says: % evt 3.0\nthat is another format than dat (DAT file)\n\
-                   what to do: name --format raw-evt3; --force reads the file as dat all the same\n";
+    let message = "a.dat: line 1 of the file says: % evt 3.0\nthat is not dat (DAT file)\n\
+                   what to do: name --format raw-evt3; or add --force to read it as dat all the same\n";
     run(&folder, &["rows", "a.dat"]).declined(message);
     fs::write(folder.join("a.dat"), dat()).expect("a file");
     assert_eq!(run(&folder, &["rows", "a.dat", "--format", "DAT"]).good().text(), DAT_ROWS);

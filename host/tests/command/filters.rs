@@ -125,15 +125,15 @@ fn info_of_a_part() {
     };
     assert_eq!(
         part("--camera 1"),
-        "3 of 6, by the filters that were given\n    pixel: 3\n        of camera 0: 0\n        of camera 1: 3\n    trigger: 0\n    IMU counts: 0\n    \
+        "3 of 6 pass the filters\n    pixel: 3\n        of camera 0: 0\n        of camera 1: 3\n    trigger: 0\n    IMU counts: 0\n    \
          IMU singles: 0\n    special: 0\nfirst time: 4098 µs\nlast time: 4098 µs\nspan: 0 µs, 0.000000 s\ntimes out of order: 0\nclock wraps: 0 before the \
          last event, 0 of them before the first; the clock wraps every 16777216 µs\ntriggers: 0\n"
     );
-    assert!(part("--from 4099").starts_with("2 of 6, by the filters that were given\n    pixel: 1\n    trigger: 1\n"));
+    assert!(part("--from 4099").starts_with("2 of 6 pass the filters\n    pixel: 1\n    trigger: 1\n"));
     assert!(part("--kind trigger").ends_with("\ntriggers: 1\n    4099 µs trigger channel 1 falling\n"));
     // before a refusal
     let run = run_on(&folder, &two_cameras()[..17], &arguments("info", "evt3", "--camera 0"));
-    assert!(run.status == Some(1) && run.text().contains("events: 1 of 4 before the reading stopped, by the filters that were given\n"), "{run:?}");
+    assert!(run.status == Some(1) && run.text().contains("events: 1 of 4 pass the filters before the reading stopped\n"), "{run:?}");
 }
 
 #[test]
@@ -201,7 +201,7 @@ fn since_an_edge() {
                 .map(|(row, since)| format!("{} {}\n", row.iter().map(u64::to_string).collect::<Vec<_>>().join(" "), cell(*since)))
                 .collect();
             let run = of("rows", "");
-            let noted = run.stderr.starts_with("note: there is no ") && run.stderr.ends_with(" in what was read, so that no time counts from one\n");
+            let noted = run.stderr.starts_with("note: no ") && run.stderr.ends_with(" was read, so there is no time since one\n");
             assert_eq!((run.text() == lines, noted), (true, all.iter().all(Option::is_none)), "{edge} of {format}: {}", run.stderr);
             reached += all.iter().flatten().count();
             // where a filter leaves the triggers out, and in a column of its own
@@ -292,7 +292,7 @@ fn triggers_in_info() {
             0..=200 => (0..count).map(line).collect(),
             _ => (0..100)
                 .map(line)
-                .chain([format!("    and {} more, up to the last 100:\n", count - 200)])
+                .chain([format!("    and {} more, and then the last 100:\n", count - 200)])
                 .chain((count - 100..count).map(line))
                 .collect(),
         };

@@ -23,8 +23,8 @@ fn the_longest_input() {
         format!(
             "refused 1: the input is longer than 1073741824 bytes\n\
              at byte 0 of {name} (counted from 0); 0 rows were finished before it\n\
-             what to do: record in shorter parts, or cut the recording by time with a program of the camera's maker, as metavision_file_cutter \
-             cuts RAW files\n"
+             what to do: record in shorter parts, or cut the file by time with the camera maker's software (metavision_file_cutter for RAW \
+             files)\n"
         )
     };
     // no memory for so many bytes: they are not read
@@ -38,6 +38,9 @@ fn the_longest_input() {
     within(&["rows", "recording", "--format", "evt2"]).failed(&message("recording"));
     within(&["convert", "recording", "out", "--format", "evt2", "--to", "evt2"]).failed(&message("recording"));
     run_after(&folder, "ulimit -v 100000; exec < recording", &["rows", "-", "--format", "evt2"]).failed(&message("standard input"));
+    // of which another program has read so much that the rest is not too long
+    let run = run_after(&folder, "exec < recording; dd bs=5000 count=1 of=/dev/null 2> /dev/null", &["rows", "-", "--format", "evt2"]);
+    assert_eq!(run.good().text(), "");
     // a stream does not say how long it is
     let run = run_after(&folder, "cat recording | \"$0\" \"$@\"; exit", &["info", "-", "--format", "evt2"]);
     assert!(run.text().contains("size: over 1073741824 bytes\n"), "{run:?}");
@@ -93,7 +96,7 @@ fn the_longest_list() {
     run_on(&folder, &recording, &arguments).failed(
         "refused 13: a list whose length is no multiple of ten, or over 16777216 rows\n\
          recording has 16777217 rows, and at most 16777216 can be written; nothing was written\n\
-         what to do: write it in parts by time, to a file each: --until T for the first, then --from T, such as T 1\n",
+         what to do: write it in parts, each to a file of its own: --until T for the first and --from T for the next; here T may be 1\n",
     );
     assert_eq!(files(&folder), ["recording"]);
     // as it says

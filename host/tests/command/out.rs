@@ -58,8 +58,8 @@ fn the_recording_is_never_changed() {
                 (vec!["info", "-", "--format=evt2"], "standard input"),
             ];
             for (line, name) in lines {
-                let goes = "is where standard output goes: the recording would be changed, so nothing was done\n";
-                run_after(&folder, opened, &line).declined(&format!("{name} {goes}"));
+                let changed = "itself, and a recording is never changed; send it somewhere else\n";
+                run_after(&folder, opened, &line).declined(&format!("standard output goes into {name} {changed}"));
             }
         }
         let after = fs::metadata(folder.join("recording")).expect("it is there");
@@ -71,7 +71,7 @@ fn the_recording_is_never_changed() {
 #[test]
 fn a_file_that_is_there() {
     let folder = folder("there");
-    let there = |name: &str| format!("{name} is there already, and stays as it is; name another file, or add --force to replace it\n");
+    let there = |name: &str| format!("{name} already exists and is left as it is; name another file, or add --force to replace it\n");
     fs::write(folder.join("out"), "as it was").expect("a file");
     symlink("out", folder.join("link")).expect("a link");
     for out in ["out", "link"] {
@@ -99,7 +99,7 @@ fn a_file_that_comes_meanwhile() {
         let run = scope.spawn(|| run_after(&folder, line, &["convert", "-", "out", "--format=evt2", "--to=evt2"]));
         thread::sleep(Duration::from_millis(200));
         fs::write(folder.join("out"), "as it was").expect("a file");
-        run.join().expect("it ran").declined("out is there already, and stays as it is; name another file, or add --force to replace it\n");
+        run.join().expect("it ran").declined("out already exists and is left as it is; name another file, or add --force to replace it\n");
     });
     assert_eq!((written(&folder, "out"), files(&folder)), (b"as it was".to_vec(), vec!["out".to_string(), "recording".to_string()]));
 }
@@ -172,6 +172,9 @@ fn streams() {
             run_after(&folder, "exec >> all", &to(out, force)).noted(REPORT);
             assert_eq!(written(&folder, "all"), [b"before ".to_vec(), in_order()].concat(), "{out}");
         }
+        // and what is written later comes after it
+        let run = run_after(&folder, "exec > all; \"$0\" \"$@\"; exec printf after", &to(out, &[]));
+        assert_eq!((run.stderr.as_str(), written(&folder, "all")), (REPORT, [in_order(), b"after".to_vec()].concat()), "{out}");
     }
     // another descriptor
     run_after(&folder, "printf 'before ' > all; exec 3>> all", &to("/dev/fd/3", &[])).noted(REPORT);
@@ -203,7 +206,7 @@ fn a_terminal() {
             Command::new("script").args(["-qec", &line, "/dev/null"]).current_dir(&folder).stdin(Stdio::null()).output().expect("script runs");
         (output.status.code(), output.stdout)
     };
-    assert_eq!(shown(""), (Some(2), b"words are no text for a terminal; name a file, or add --force\r\n".to_vec()));
+    assert_eq!(shown(""), (Some(2), b"words are binary and would garble the terminal; name a file, or add --force\r\n".to_vec()));
     let (status, stdout) = shown("--force");
     assert!(status == Some(0) && stdout.starts_with(&in_order()[..8]), "{stdout:?}");
 }
@@ -283,7 +286,7 @@ fn names_of_files() {
         fs::write(folder.join("recording"), evt2_words()).expect("a file");
         fs::write(folder.join(name), in_order()).expect("a file");
         convert(&folder, name, &[])
-            .declined(&format!("{shown} is there already, and stays as it is; name another file, or add --force to replace it\n"));
+            .declined(&format!("{shown} already exists and is left as it is; name another file, or add --force to replace it\n"));
         let info = run(&folder, &["info", name, "--format=evt2"]).good();
         assert_eq!(info.text().lines().next(), Some(format!("file: {shown}").as_str()));
         let report = convert(&folder, name, &["--force"]).good();

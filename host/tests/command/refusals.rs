@@ -143,7 +143,7 @@ fn advice() {
         "check first that the format is right; if it is, look at the line at this place: widths and heights are whole numbers without comma or \
                 point, each said once";
     let dat_bytes =
-        "check first that it is a DAT file; after its header have to stand the bytes 0 and 8, the type and the size of its events, and there stand";
+        "check first that it is a DAT file: its header must be followed by the bytes 0 and 8, the type and the size of its events, and here it is";
     let aedat_lines = "check first that it is an AEDAT 3.1 file; its lines are #!AER-DAT3.1, then #Format: RAW, then others that begin with #, then \
                        #!END-HEADER, and each ends in CR LF";
     let cases = [

@@ -63,11 +63,11 @@ fn a_picture_that_the_header_does_not_say() {
     let folder = folder("unsaid");
     let cases: [(&str, &[u8], &str); 6] = [
         ("raw-evt3", b"% width 640\n% height 480\n", ""),
-        ("raw-evt3", b"% evt 3.0\n", "says no width or height, so that a picture of 2048 by 2048 pixels was taken"),
-        ("raw-evt2", b"", "says no width or height, so that a picture of 2048 by 2048 pixels was taken"),
-        ("raw-evt2", b"% Width: 640\n", "says no height, so that a picture of 640 by 2048 pixels was taken"),
-        ("raw-evt3", b"% height 2048\n", "says no width, so that a picture of 2048 by 2048 pixels was taken"),
-        ("dat", b"% Height 480\n\x00\x08", "says no width, so that a picture of 16384 by 480 pixels was taken"),
+        ("raw-evt3", b"% evt 3.0\n", "gives no width or height; a picture of 2048 by 2048 pixels was assumed"),
+        ("raw-evt2", b"", "gives no width or height; a picture of 2048 by 2048 pixels was assumed"),
+        ("raw-evt2", b"% Width: 640\n", "gives no height; a picture of 640 by 2048 pixels was assumed"),
+        ("raw-evt3", b"% height 2048\n", "gives no width; a picture of 2048 by 2048 pixels was assumed"),
+        ("dat", b"% Height 480\n\x00\x08", "gives no width; a picture of 16384 by 480 pixels was assumed"),
     ];
     for (format, bytes, told) in cases {
         let note = if told.is_empty() { String::new() } else { format!("note: the header of recording {told}\n") };

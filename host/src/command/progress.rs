@@ -1,5 +1,5 @@
 //! What is told on standard error while work takes long; where it takes no more than a second, nothing.
-use super::output;
+use super::{output, standard};
 use std::io::{self, Cursor, IsTerminal, Write};
 use std::sync::{Arc, Condvar, Mutex, MutexGuard};
 use std::thread::{self, JoinHandle};
@@ -66,13 +66,12 @@ impl Progress {
         output::tell(lines);
     }
 
-    /// Rows follow on standard output.
+    /// Rows follow on standard output. Only where they go to a file does nobody look at them, or at what a pager shows of them, on the same terminal.
     pub fn before_printing(&self) {
-        if io::stdout().is_terminal() {
-            let mut state = self.shared.lock();
-            state.wipe();
-            state.quiet = true;
-        }
+        let to_file = standard::output().and_then(|output| output.metadata()).is_ok_and(|output| output.is_file());
+        let mut state = self.shared.lock();
+        state.wipe();
+        state.quiet = !to_file;
     }
 }
 

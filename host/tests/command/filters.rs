@@ -26,8 +26,9 @@ fn recordings(folder: &Path) -> Vec<(&'static str, Vec<u8>, Vec<Row>)> {
         ("evt2", evt2::recording(evt2::Scene::Mixed, picture, (1 << 32) - 1_500, 3_000, &mut numbers)),
         ("evt3", evt3::recording(evt3::Scene::TwoCameras, picture, 0, 3_000, &mut numbers)),
         ("aedat", aedat::recording(aedat::Scene::Mixed, picture, 0, 3_000, &mut numbers)),
-        // times out of order
+        // times out of order, and those of edges too
         ("evt2", evt2_words()),
+        ("evt3", evt3::bytes_of(&[0x8001, 0x6009, 0xa001, 0x6005, 0xa001, 0x0003, 0x6007, 0x2805, 0x600a, 0x2806])),
     ];
     let read = recordings.into_iter().map(|(format, bytes)| {
         let rows = rows_of(run_on(folder, &bytes, &["rows", "recording", "--format", format]).good().text());

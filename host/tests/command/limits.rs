@@ -2,7 +2,7 @@
 use super::inputs::{dat, DAT_ROWS};
 use super::run::{command, files, folder, run, run_after, run_fed, run_on, Run, BINARY};
 use std::fs::{self, File};
-use std::io::{Read, Write};
+use std::io::{BufRead, BufReader, Read, Write};
 use std::path::Path;
 use std::process::{Command, Stdio};
 use std::time::Duration;
@@ -47,20 +47,36 @@ fn the_longest_input() {
     assert_eq!(run.stderr, message("standard input"));
 }
 
-/// Nothing is told in the first second. A recording that comes more slowly has its stages told, and nothing else is changed by it.
+/// Nothing is told in the first second. Of a recording that comes more slowly its stages are told, and nothing else is changed by it.
 #[test]
 fn progress() {
     let folder = folder("progress");
     let mut command = command(&folder, &["rows", "-", "--format", "dat"]);
     let mut child = command.stdin(Stdio::piped()).stdout(Stdio::piped()).stderr(Stdio::piped()).spawn().expect("the command runs");
-    let mut stdin = child.stdin.take().expect("a pipe");
+    let (mut stdin, mut stderr) = (child.stdin.take().expect("a pipe"), BufReader::new(child.stderr.take().expect("a pipe")));
     stdin.write_all(&dat()[..40]).expect("it is read");
-    std::thread::sleep(Duration::from_millis(1_800));
+    let mut line = String::new();
+    stderr.read_line(&mut line).expect("a line");
+    let seconds = line.strip_prefix("... reading: 0 bytes, after ").and_then(|line| line.strip_suffix(" s\n")?.parse::<u64>().ok());
+    assert!(seconds.is_some_and(|seconds| seconds >= 1), "{line}");
     stdin.write_all(&dat()[40..]).expect("it is read");
     drop(stdin);
+    assert_eq!(Run::from(child.wait_with_output().expect("the command ends")).good().text(), DAT_ROWS);
+    let told = stderr.lines().collect::<Result<Vec<_>, _>>().expect("text");
+    assert!(told.iter().all(|line| line.starts_with("... ")), "{told:?}");
+}
+
+/// Where a pager shows the rows, nothing is told over it, however long that takes.
+#[test]
+fn no_progress_over_a_pager() {
+    let folder = folder("progress-pager");
+    recording(&folder);
+    let mut command = command(&folder, &["rows", "recording", "--format", "dat"]);
+    let child = command.stdout(Stdio::piped()).stderr(Stdio::piped()).spawn().expect("the command runs");
+    // rows wait in the pipe
+    std::thread::sleep(Duration::from_millis(2_500));
     let run = Run::from(child.wait_with_output().expect("the command ends"));
-    assert!(run.progress.starts_with("... reading: 0 bytes, after 1 s\n"), "{run:?}");
-    assert_eq!(run.good().text(), DAT_ROWS);
+    assert!(!run.progress.contains("printing") && run.text().lines().count() >= 1_000_000, "{}", run.progress);
 }
 
 /// On a terminal it is one line, which is gone in the end.
@@ -68,12 +84,16 @@ fn progress() {
 fn progress_on_a_terminal() {
     let folder = folder("progress-terminal");
     fs::write(folder.join("recording"), dat()).expect("a file for the test");
-    let line = format!("(head -c 40 recording; sleep 1.8; tail -c +41 recording) | {BINARY} rows - --format dat");
-    // all of it on one terminal
-    let output = Command::new("script").args(["-qec", &line, "/dev/null"]).current_dir(&folder).stdin(Stdio::null()).output().expect("script runs");
-    let shown = String::from_utf8(output.stdout).expect("text").replace("\r\n", "\n");
-    assert!(output.status.success() && shown.starts_with("\r\x1b[K... reading: 0 bytes, after 1 s\r\x1b[K"), "{shown:?}");
-    assert!(shown.ends_with(&format!("\r\x1b[K{DAT_ROWS}")), "{shown:?}");
+    let info = run(&folder, &["info", "recording", "--format", "dat"]).good().text().replace("file: recording", "file: standard input");
+    for (command, printed) in [("rows", DAT_ROWS), ("info", &info)] {
+        let line = format!("(head -c 40 recording; sleep 3; tail -c +41 recording) | {BINARY} {command} - --format dat");
+        // all of it on one terminal
+        let output =
+            Command::new("script").args(["-qec", &line, "/dev/null"]).current_dir(&folder).stdin(Stdio::null()).output().expect("script runs");
+        let shown = String::from_utf8(output.stdout).expect("text").replace("\r\n", "\n");
+        assert!(output.status.success() && shown.starts_with("\r\x1b[K... reading: 0 bytes, after "), "{shown:?}");
+        assert!(shown.ends_with(&format!(" s\r\x1b[K{printed}")), "{shown:?}");
+    }
 }
 
 /// EVT3 words that give so many rows, nearly twelve a word, so that the buffer has to grow to the most.

@@ -80,16 +80,13 @@ fn said_by(line: &[u8]) -> Option<Says> {
     if small.starts_with("data file containing") {
         return Some(Says::Dat);
     }
-    let (keyword, value) = small.split_once(' ')?;
-    let value = value.split(';').next()?.trim();
-    match keyword.trim_end_matches(':') {
-        "evt" => Some(evt(value)),
+    let mut parts = small.split([' ', '\t', ';']).filter(|part| !part.is_empty());
+    match parts.next()?.trim_end_matches(':') {
+        "evt" => parts.next().map(evt),
         // such as `EVT3;height=720;width=1280`, or `evt 2.0`
-        "format" | "data_format" => match value.strip_prefix("evt").map(str::trim_start) {
-            Some("") => None,
-            Some(version) => Some(evt(version)),
-            None if value.is_empty() => None,
-            None => Some(Says::Unread(shown(value.to_ascii_uppercase()))),
+        "format" | "data_format" => match parts.next()? {
+            "evt" => parts.next().map(evt),
+            name => Some(name.strip_prefix("evt").map_or_else(|| Says::Unread(shown(name.to_ascii_uppercase())), evt)),
         },
         _ => None,
     }

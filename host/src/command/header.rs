@@ -59,6 +59,9 @@ fn said(bytes: &[u8], limit: u32, header: Header) -> [bool; 2] {
 /// Tells which picture was taken where the header of a file does not say it whole. `info` says it among other things.
 pub fn note(recording: &Recording, progress: &Progress) {
     let Head::Text(limit) = recording.format.head else { return };
+    if recording.is_too_long() {
+        return;
+    }
     let Ok(header) = read_header(&recording.bytes, limit) else { return };
     let unsaid = match said(&recording.bytes, limit, header) {
         [true, true] => return,

@@ -53,8 +53,8 @@ impl Since {
                 pushed(&mut edges, edge)?;
             }
         }
-        // a recording need not be in the order of time; the last of those at one time stays the last
-        edges.sort_by_key(|edge| edge.time);
+        // a recording need not be in the order of time; a stable sort would take memory that may be refused
+        edges.sort_unstable_by_key(|edge| (edge.time, edge.channel));
         Ok(Edges(edges))
     }
 

@@ -14,6 +14,8 @@ const CASES: &[(&str, &str, &str)] = &[
     ("% data_format evt 2.0\n", "raw-evt2", ""),
     ("% data_format EVT2.0\n", "raw-evt2", ""),
     ("% data_format evt\n", "raw-evt3", ""),
+    ("% evt 3.0 of a camera\n", "raw-evt3", ""),
+    ("% evt  3.0\n", "raw-evt3", ""),
     ("% format\n", "raw-evt3", ""),
     ("% evt\n", "raw-evt3", ""),
     ("% camera_model EVT2 3.0\n% events evt 2.0\n", "raw-evt3", ""),

@@ -36,6 +36,7 @@ fn the_longest_input() {
         assert_eq!((run.status, run.stderr), (Some(1), message("recording")), "{format}");
     }
     within(&["rows", "recording", "--format", "evt2"]).failed(&message("recording"));
+    within(&["rows", "recording", "--format", "raw-evt2"]).failed(&message("recording"));
     within(&["convert", "recording", "out", "--format", "evt2", "--to", "evt2"]).failed(&message("recording"));
     run_after(&folder, "ulimit -v 100000; exec < recording", &["rows", "-", "--format", "evt2"]).failed(&message("standard input"));
     // of which another program has read so much that the rest is not too long

@@ -1,5 +1,6 @@
 //! Memory for rows, words and files that is asked for and may be refused, so that a long recording ends in a message.
 use std::alloc::{alloc_zeroed, Layout};
+use std::ffi::c_int;
 
 /// So many bytes were asked for and refused.
 #[derive(Clone, Copy)]
@@ -14,6 +15,20 @@ impl Lack {
              what to do: use a machine with more memory, or record in shorter parts",
             self.0
         )
+    }
+}
+
+/// Keeps the GNU C library from setting up a heap for each thread, for which it takes 64 MB of addresses: where they are limited, rows need them.
+pub fn share_the_heap() {
+    #[cfg(target_env = "gnu")]
+    {
+        extern "C" {
+            /// Of the C library, which Rust's own links.
+            fn mallopt(parameter: c_int, value: c_int) -> c_int;
+        }
+        const M_ARENA_MAX: c_int = -8;
+        // SAFETY: the call takes two numbers, and no other thread runs yet.
+        unsafe { mallopt(M_ARENA_MAX, 1) };
     }
 }
 

@@ -1,4 +1,5 @@
 //! What is told on standard error while work takes long; where it takes no more than a second, nothing.
+use super::memory::share_the_heap;
 use super::{output, standard};
 use std::io::{self, Cursor, IsTerminal, Write};
 use std::sync::{Arc, Condvar, Mutex, MutexGuard};
@@ -43,6 +44,7 @@ impl Progress {
         let state = State { stage: "", done: 0, unit: "", quiet: false, ended: false, told: "" };
         let shared = Arc::new(Shared { state: Mutex::new(state), ended: Condvar::new() });
         let told = Arc::clone(&shared);
+        share_the_heap();
         // where no thread is to be had, nothing is told
         let teller = thread::Builder::new().stack_size(STACK).spawn(move || told.tell()).ok();
         Progress { shared, teller }
@@ -113,7 +115,7 @@ impl State {
             return;
         }
         self.told = self.stage;
-        // no text of the heap: the thread would have it set up a part of its own
+        // no memory of the heap, which may be all gone
         let mut line = Cursor::new([0; 128]);
         let (wiped, end) = if terminal { (WIPED, "") } else { ("", "\n") };
         let seconds = elapsed.as_secs();

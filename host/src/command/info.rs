@@ -85,7 +85,7 @@ fn triggers(looked: &Looked) -> Vec<String> {
     }
     let hidden = count - first.len() - last.len();
     let between = (hidden > 0).then(|| format!("    and {hidden} more, and then the last {TRIGGERS}:"));
-    let line = |item: &Item| format!("    {}", events::line_of(item, false));
+    let line = |item: &Item| format!("    {}", events::line_of(item));
     [format!("triggers: {count}")].into_iter().chain(first.iter().map(line)).chain(between).chain(last.iter().map(line)).collect()
 }
 

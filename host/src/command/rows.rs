@@ -34,7 +34,12 @@ pub fn print(source: &Source, view: &View, lines: &Lines) -> Result<(), Failure>
     let mut printer = Printer { text: vec![], lines: 0, progress: &progress };
     match lines {
         Lines::Columns(columns, named) => print_columns(&looked, columns, *named, &mut printer),
-        Lines::Events => looked.items().try_for_each(|item| printer.line(|text| add_text(&events::line_of(&item, view.since.is_some()), text))),
+        Lines::Events => looked.items().try_for_each(|item| {
+            printer.line(|text| {
+                events::add_line(&item, view.since.is_some(), text);
+                text.push(b' ');
+            })
+        }),
         Lines::Bins(microseconds, named) => {
             let bins = looked.bins(*microseconds).map_err(lack)?;
             print_bins(&bins, view.since.is_some().then_some(&looked.edges), *named, &mut printer)

@@ -49,10 +49,15 @@ pub const EVT3_WRAP: u64 = 16_777_216;
 
 /// The kinds of rows: a row's first number. 5 was that of USB packets, and no other kind ever gets it.
 pub mod kind {
+    /// Data: x, y, polarity (1 brighter), camera (0 or 1).
     pub const PIXEL: u32 = 1;
+    /// Data: channel, edge (1 rising).
     pub const TRIGGER: u32 = 2;
+    /// Data: acceleration X, Y, Z and rotation X, Y, Z, as counts.
     pub const IMU_COUNTS: u32 = 3;
+    /// Data: the bits of seven singles, as above and then the temperature.
     pub const IMU_SINGLES: u32 = 4;
+    /// Data: type, and 24 bits more.
     pub const SPECIAL: u32 = 6;
 }
 
@@ -60,7 +65,7 @@ pub mod kind {
 #[derive(Clone, Copy, Debug, PartialEq, Eq)]
 pub struct Refusal(pub u64);
 
-/// 7 was the number of a slave camera's bit, and no other refusal ever gets it.
+/// The refusals by name; [`Refusal::text`] says what each of them means. 7 was the number of a slave camera's bit, and no other refusal ever gets it.
 impl Refusal {
     pub const TOO_LONG: Refusal = Refusal(1);
     pub const NO_ROOM: Refusal = Refusal(2);

@@ -1,9 +1,7 @@
 //! What a file says of its own format in its first lines. It is held against the format that was named, and quoted where none was named; no format is
 //! ever chosen by it.
 use super::formats::{listed, names, Format, FORMATS};
-use super::names::shown;
-use std::ffi::OsStr;
-use std::os::unix::ffi::OsStrExt;
+use super::names::{shown, shown_bytes};
 
 /// The longest line of a text header, its newline with it.
 const LONGEST: usize = 256;
@@ -26,7 +24,7 @@ pub enum Says {
 
 /// A line that says something of the format.
 pub struct Claim {
-    pub says: Says,
+    says: Says,
     /// The line's number, from 1 on.
     number: usize,
     line: String,
@@ -35,7 +33,7 @@ pub struct Claim {
 /// All that a file's first bytes say of its format; the lines that tell most come first.
 fn claims(bytes: &[u8]) -> Vec<Claim> {
     let lines = header_lines(bytes);
-    let claim = |says, number, line| Claim { says, number, line: shown(OsStr::from_bytes(line)) };
+    let claim = |says, number, line| Claim { says, number, line: shown_bytes(line) };
     let telling = lines.iter().zip(1..).filter_map(|(line, number)| Some(claim(said_by(line)?, number, line)));
     // words may begin like a header by chance, though not with a line of text
     let is_text = |line: &&&[u8]| line.starts_with(b"%") && !line.iter().any(|byte| byte.is_ascii_control() && *byte != b'\t');
@@ -73,7 +71,7 @@ const AEDAT: &[u8] = b"#!AER-DAT";
 /// What a line says of the format.
 fn said_by(line: &[u8]) -> Option<Says> {
     if let Some(version) = line.strip_prefix(AEDAT) {
-        return Some(if version == b"3.1" { Says::Aedat } else { Says::Unread(format!("AEDAT {}", shown(OsStr::from_bytes(version)))) });
+        return Some(if version == b"3.1" { Says::Aedat } else { Says::Unread(format!("AEDAT {}", shown_bytes(version))) });
     }
     let line = String::from_utf8_lossy(line);
     let small = line.strip_prefix("% ")?.to_ascii_lowercase();

@@ -15,7 +15,7 @@ pub struct Format {
     pub title: &'static str,
     /// What the help says of it. Neighbours that have the same help share a line.
     pub help: &'static str,
-    /// The suffix that tells it, and says what it is where no format is named.
+    /// The suffix that tells it where no format is named.
     suffix: Option<&'static str>,
     pub head: Head,
     /// What a file of it may say of itself.
@@ -74,7 +74,7 @@ const WORDS: &str = "bare words, without a header";
 const RAW: &str = "a RAW file of such words";
 const TOLD: &str = "a DAT file, an AEDAT 3.1 file";
 
-/// EVT3 words, each of which can give twelve rows, seldom give more than one a word on the whole.
+/// An EVT3 word can give twelve rows, but on the whole there is seldom more than one a word: room for more is asked for when it is needed.
 pub const FORMATS: &[Format] = &[
     Format {
         name: "evt2",

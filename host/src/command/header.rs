@@ -1,5 +1,6 @@
 //! What `info` says of a recording's header and picture. Where lines end and what they say is the library's answer.
 use super::formats::{Asked, Head};
+use super::names::shown_bytes;
 use super::progress::Progress;
 use super::recording::{Recording, Stop};
 use fryskelom::{read_header, Header, EVT_SIDE};
@@ -35,7 +36,7 @@ fn of_words(Asked { width, height }: Asked) -> Vec<String> {
 /// The text header of a RAW or DAT file.
 fn of_text(bytes: &[u8], limit: u32) -> Vec<String> {
     match read_header(bytes, limit) {
-        Ok(header) => [shown(&bytes[..header.data], b"\n"), sides(bytes, limit, header)].concat(),
+        Ok(header) => [read_whole(&bytes[..header.data], b"\n"), sides(bytes, limit, header)].concat(),
         Err(fault) => [refused(bytes, fault.place, b"\n"), vec!["picture: not known".to_string()]].concat(),
     }
 }
@@ -82,7 +83,7 @@ fn of_aedat(bytes: &[u8], stop: Option<Stop>) -> Vec<String> {
     let mut end = 0;
     let header = loop {
         match line_of(&bytes[end..good]) {
-            Some(AEDAT_END) => break shown(&bytes[..end + AEDAT_END.len()], b"\r\n"),
+            Some(AEDAT_END) => break read_whole(&bytes[..end + AEDAT_END.len()], b"\r\n"),
             Some(line) => end += line.len(),
             None => break refused(bytes, good, b"\r\n"),
         }
@@ -95,37 +96,27 @@ fn line_of(bytes: &[u8]) -> Option<&[u8]> {
     bytes.iter().position(|&byte| byte == b'\n').map(|newline| &bytes[..=newline])
 }
 
-fn shown(header: &[u8], newline: &[u8]) -> Vec<String> {
+/// All lines of a header.
+fn read_whole(header: &[u8], newline: &[u8]) -> Vec<String> {
     [vec![format!("header: the data begin at byte {}", header.len())], escaped(header, newline)].concat()
 }
 
 /// The lines before the one at fault, and the start of that one.
 fn refused(bytes: &[u8], place: usize, newline: &[u8]) -> Vec<String> {
     let fault = &bytes[place..bytes.len().min(place + SHOWN)];
-    let fault = fault.split(|&byte| byte == b'\n').take(1).map(|line| format!("  > {}", escaped_line(line)));
+    let fault = fault.split(|&byte| byte == b'\n').take(1).map(|line| format!("  > {}", shown_bytes(line)));
     let first = format!("header: refused at byte {place}, in the line marked >");
     [vec![first], escaped(&bytes[..place], newline), fault.collect()].concat()
 }
 
-/// Lines as they stand, but for control characters and bytes that are not ASCII. Of very many the first are enough.
+/// Lines as they stand, but for what cannot be printed. Of very many the first are enough.
 fn escaped(lines: &[u8], newline: &[u8]) -> Vec<String> {
     let mut lines = lines.split_inclusive(|&byte| byte == b'\n');
-    let first = lines.by_ref().take(MOST_LINES).map(|line| format!("    {}", escaped_line(line.strip_suffix(newline).unwrap_or(line))));
+    let first = lines.by_ref().take(MOST_LINES).map(|line| format!("    {}", shown_bytes(line.strip_suffix(newline).unwrap_or(line))));
     let mut shown: Vec<_> = first.collect();
     let hidden = lines.count();
     if hidden > 0 {
         shown.push(format!("    and {hidden} more lines"));
     }
     shown
-}
-
-fn escaped_line(line: &[u8]) -> String {
-    line.iter().map(|&byte| escaped_byte(byte)).collect()
-}
-
-fn escaped_byte(byte: u8) -> String {
-    match byte {
-        b' '..=b'~' => char::from(byte).to_string(),
-        _ => byte.escape_ascii().to_string(),
-    }
 }

@@ -1,5 +1,5 @@
 //! The help texts, in lines of at most 80 columns. What they say of the formats is taken from the table.
-use super::formats::{bare, capitals, listed, names_written, suffixes, written, FORMATS};
+use super::formats::{bare, capitals, listed, names_written, suffixes, written, Format, FORMATS};
 use super::names::called;
 use super::{columns, selection};
 
@@ -60,7 +60,7 @@ fn command(usage: &str, text: &str) -> String {
 /// A line for each format, or for some that are alike.
 fn lines_of_formats() -> String {
     let alike = FORMATS.chunk_by(|format, next| format.help == next.help);
-    let names = |formats: &[_]| formats.iter().map(|format: &super::formats::Format| format.name).collect::<Vec<_>>().join(", ");
+    let names = |formats: &[Format]| formats.iter().map(|format| format.name).collect::<Vec<_>>().join(", ");
     alike.map(|formats| format!("{}{:<20}{}\n", " ".repeat(INDENT), names(formats), formats[0].help)).collect()
 }
 
@@ -102,17 +102,13 @@ const FORCED: &str = "read a recording even if it says itself that its format is
 
 /// The options that say what a recording is.
 fn source(forced: &str) -> String {
+    let needed = format!("Not needed if the name ends in {}.", listed(suffixes(), ".", "or"));
+    let told = "For a RAW file you say which words it holds. If you leave it out, the line of the header that tells is quoted; if the header contradicts you, \
+                nothing is read.";
     [
         option("--format FORMAT", "what the recording is, in any letter case:"),
         lines_of_formats(),
-        wrapped(
-            &" ".repeat(INDENT),
-            &format!(
-            "Not needed if the name ends in {}. For a RAW file you say which words it holds. If you leave it out, the line of the header that tells is \
-             quoted; if the header contradicts you, nothing is read.",
-            listed(suffixes(), ".", "or")
-        ),
-        ),
+        wrapped(&" ".repeat(INDENT), &format!("{needed} {told}")),
         option("--width N", &format!("the picture's width in pixels, 1 to 2048, for {} only; 2048 if left out", listed(bare(), "", "and"))),
         option("--height N", "its height likewise"),
         option("--force", forced),

@@ -12,8 +12,15 @@ pub fn called() -> String {
 
 /// A file's name or an argument, in one line: what cannot be printed is escaped, so that no name ends a line or moves a terminal's cursor.
 pub fn shown(name: impl AsRef<OsStr>) -> String {
-    let chunks = name.as_ref().as_encoded_bytes().utf8_chunks();
-    chunks.flat_map(|chunk| chunk.valid().chars().map(shown_char).chain(chunk.invalid().iter().map(|byte| byte.escape_ascii().to_string()))).collect()
+    shown_bytes(name.as_ref().as_encoded_bytes())
+}
+
+/// The same of a line of a file.
+pub fn shown_bytes(bytes: &[u8]) -> String {
+    bytes
+        .utf8_chunks()
+        .flat_map(|chunk| chunk.valid().chars().map(shown_char).chain(chunk.invalid().iter().map(|byte| byte.escape_ascii().to_string())))
+        .collect()
 }
 
 fn shown_char(char: char) -> String {

@@ -68,7 +68,7 @@ impl Progress {
         output::tell(lines);
     }
 
-    /// Rows follow on standard output. Only where they go to a file does nobody look at them, or at what a pager shows of them, on the same terminal.
+    /// Rows follow on standard output. Unless they go to a file nothing more is told: it would be written over them, or over what a pager shows of them.
     pub fn before_printing(&self) {
         let to_file = standard::output().and_then(|output| output.metadata()).is_ok_and(|output| output.is_file());
         let mut state = self.shared.lock();

@@ -1,4 +1,4 @@
-//! Signals that end the command while it writes a file: what is there of it goes first.
+//! Signals that end the command while it writes a file: the unfinished file is removed first.
 use std::ffi::{c_char, c_int, CString};
 use std::io;
 use std::os::unix::ffi::OsStrExt;

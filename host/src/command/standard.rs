@@ -16,8 +16,8 @@ extern "C" {
 /// Asks for the flags of a file that is open, and fails for one that is not.
 const F_GETFD: c_int = 1;
 
-/// Looks whether they are open. This has to come before `main`: until then Rust has opened `/dev/null` in place of those that are not, where all that is
-/// written is lost and counts as written.
+/// Looks whether they are open. This has to come before `main`: by then Rust has opened `/dev/null` in place of those that are not, and what is written
+/// there is lost without an error.
 extern "C" fn look() {
     for (file, closed) in [(0, &INPUT_CLOSED), (1, &OUTPUT_CLOSED)] {
         // SAFETY: the call takes two numbers and changes nothing.

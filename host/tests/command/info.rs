@@ -194,6 +194,14 @@ fn both_sides_said_and_neither() {
     }
 }
 
+/// Text of any language stands as it is, and nothing else reaches a terminal.
+#[test]
+fn lines_of_a_header() {
+    let header = b"% maker M\xc3\xbcller \xc2\xb5\n% a\x1b[31m\x7f\xff\xe2\x80\xae\n% width 640\n% height 480\n";
+    let run = run_on(&folder("header-lines"), header, &["info", "recording", "--format", "raw-evt2"]).good();
+    assert!(run.text().contains("    % maker Müller µ\n    % a\\u{1b}[31m\\u{7f}\\xff\\u{202e}\n    % width 640\n"), "{run:?}");
+}
+
 /// A header of a great many lines is shown by its first ones.
 #[test]
 fn a_header_of_many_lines() {

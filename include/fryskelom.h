@@ -73,6 +73,11 @@ typedef struct {
     uint32_t width, height;
 } fry_header;
 
+/* From which byte on no row is missing. seen 1: place is that byte. seen 0: there is none, and place is 0. */
+typedef struct {
+    uint64_t seen, place;
+} fry_whole;
+
 /* The event of a row: its kind, its time in microseconds, the row's own seven numbers, and for an IMU the readings
  * (acceleration X, Y, Z in g, rotation X, Y, Z in degrees a second, temperature), +0 where there are none.
  * The data of a pixel are x, y, polarity (1 brighter), camera (0, or 1 for a slave on the same clock), and zeros. A row stored before cameras
@@ -102,6 +107,14 @@ fry_reading fry_read_evt2(const uint8_t *bytes, size_t bytes_len, uint32_t width
  * refused 5. Which of two high parts is the damaged one cannot be told: the last times before such a refusal may be wrong too.
  * ADDR_Y says the camera of the pixels that follow it, as well as their line. The pixels of all other formats are of camera 0. */
 fry_reading fry_read_evt3(const uint8_t *bytes, size_t bytes_len, uint32_t width, uint32_t height, uint32_t *rows, size_t rows_len);
+
+/* From which byte on a reader that begins at bytes[0] misses no row: the byte after the word by which TIME_HIGH, a later TIME_LOW, ADDR_Y and
+ * VECT_BASE_X have all been seen. To join a recording part way is to call fry_read_evt3 with the bytes from any of its words on, an even number
+ * of bytes from its first word. Of a recording that is read without refusal, such a reading with as much room and the same picture is not refused
+ * either; each of its words gives no row, or the rows that it gave to the full reading, all their times less by one and the same multiple of
+ * 16777216 microseconds; and from the byte that is answered here on, every word gives them all. Bytes that no reading finishes are answered by
+ * their words all the same, and a half word at the end is none. */
+fry_whole fry_whole_evt3(const uint8_t *bytes, size_t bytes_len);
 
 /* Reads the text header of a RAW or DAT file: every line from the first byte on that starts with a percent sign and a space, its
  * newline among its first 256 bytes. After the keyword width or height, in any letter case, stand a colon or none, one space, one to

@@ -218,6 +218,36 @@ pub fn read_evt3(bytes: &[u8], width: u32, height: u32, rows: &mut [u32]) -> Res
     read_words(sys::fry_read_evt3, bytes, width, height, rows)
 }
 
+/// From which byte on a reader that begins with these EVT3 words misses no row: the byte after the word by which TIME_HIGH, a later TIME_LOW, ADDR_Y and
+/// VECT_BASE_X have all been seen. `None` where they never all are.
+///
+/// To join a recording part way is to read the rest of its bytes from any word on. Of a recording that [`read_evt3`] finishes, this is proved, with equal
+/// room and picture: the reading of the rest finishes too, each word of it gives no row, or the rows that it gives in the reading of all, with all times less
+/// by one and the same multiple of [`EVT3_WRAP`], and from this byte on every word gives them all:
+///
+/// ```
+/// use fryskelom::{kind, most_rows_evt3, read_evt3, whole_evt3, EVT3_WRAP, ROW_NUMBERS};
+///
+/// // TIME_HIGH 4095, TIME_LOW 9; TIME_HIGH 0, a wrap; EXT_TRIGGER; TIME_LOW 7, ADDR_Y 3, VECT_BASE_X 4, VECT_8 with bit 1
+/// let words: Vec<u8> = [0x8FFF, 0x6009, 0x8000, 0xA000, 0x6007, 0x0003, 0x3004, 0x5002_u16].into_iter().flat_map(u16::to_le_bytes).collect();
+/// let read = |bytes: &[u8]| {
+///     let mut rows = vec![0; ROW_NUMBERS * most_rows_evt3(bytes.len())];
+///     let count = read_evt3(bytes, 8, 8, &mut rows).expect("words that are read");
+///     rows.truncate(ROW_NUMBERS * count);
+///     rows
+/// };
+/// let (full, joined) = (read(&words), read(&words[4..]));
+/// // the trigger's time is not known there; the pixel is the same but for the wrap before it
+/// assert_eq!((full[0], full[10], joined.len(), joined[0]), (kind::TRIGGER, kind::PIXEL, 10, kind::PIXEL));
+/// assert_eq!(u64::from(full[11]), u64::from(joined[1]) + EVT3_WRAP);
+/// assert_eq!(whole_evt3(&words[4..]), Some(10));
+/// ```
+pub fn whole_evt3(bytes: &[u8]) -> Option<usize> {
+    // SAFETY: as in `event_of`.
+    let sys::FryWhole { seen, place } = unsafe { sys::fry_whole_evt3(bytes.as_ptr(), bytes.len()) };
+    (seen == 1).then_some(place as usize)
+}
+
 /// Reads the text header of a file whose format allows widths and heights from 1 to `limit`, which may be any number. A fault has no rows, and its place is the
 /// first byte of the line at fault.
 pub fn read_header(bytes: &[u8], limit: u32) -> Result<Header, Fault> {

@@ -22,6 +22,12 @@ pub struct FryHeader {
 }
 
 #[repr(C)]
+pub struct FryWhole {
+    pub seen: u64,
+    pub place: u64,
+}
+
+#[repr(C)]
 pub struct FryEvent {
     pub refusal: u64,
     pub kind: u64,
@@ -45,6 +51,7 @@ extern "C" {
     pub fn fry_write_evt2(rows: *const u32, rows_len: usize, out: *mut u8, out_len: usize) -> FryWriting;
     pub fn fry_read_evt3(bytes: *const u8, bytes_len: usize, width: u32, height: u32, rows: *mut u32, rows_len: usize) -> FryReading;
     pub fn fry_write_evt3(rows: *const u32, rows_len: usize, out: *mut u8, out_len: usize) -> FryWriting;
+    pub fn fry_whole_evt3(bytes: *const u8, bytes_len: usize) -> FryWhole;
     pub fn fry_read_header(bytes: *const u8, bytes_len: usize, limit: u32) -> FryHeader;
     pub fn fry_read_raw_evt2(bytes: *const u8, bytes_len: usize, rows: *mut u32, rows_len: usize) -> FryReading;
     pub fn fry_read_raw_evt3(bytes: *const u8, bytes_len: usize, rows: *mut u32, rows_len: usize) -> FryReading;

@@ -21,6 +21,7 @@ pub(crate) enum Reader {
 pub(crate) enum Call {
     Read(Reader),
     Header,
+    Whole,
     // EVT3 words, or EVT2 words.
     Write(bool),
     Event,
@@ -35,12 +36,12 @@ pub(crate) struct Came {
     pub(crate) rows: usize,
 }
 
-// How many names stand before a name in the list of all; 11 where it is none of them.
+// How many names stand before a name in the list of all; 12 where it is none of them.
 pub(crate) fn place_of(name: &[u8]) -> usize {
     let names =
-        b"evt2 evt3 raw-evt2 raw-evt3 dat aedat packets header write-evt2 write-evt3 event ";
+        b"evt2 evt3 raw-evt2 raw-evt3 dat aedat packets header whole write-evt2 write-evt3 event ";
     let mut i = 0;
-    while i < 11 {
+    while i < 12 {
         if is_same(name, column(names, b' ', i)) {
             return i;
         }
@@ -60,8 +61,9 @@ pub(crate) fn call_of(place: usize) -> Call {
         5 => Call::Read(Reader::Aedat),
         6 => Call::Read(Reader::Aedat),
         7 => Call::Header,
-        8 => Call::Write(false),
-        9 => Call::Write(true),
+        8 => Call::Whole,
+        9 => Call::Write(false),
+        10 => Call::Write(true),
         _ => Call::Event,
     }
 }
@@ -123,6 +125,17 @@ fn read_header(limit: u32, input: &[u8], came: &mut [u32]) -> Came {
         length: 4,
         decimals: 4,
         rows: 4,
+    }
+}
+
+fn find_whole(input: &[u8], came: &mut [u32]) -> Came {
+    let whole = join::whole_from(input).numbers();
+    put_two(came, whole.seen, whole.place);
+    Came {
+        answers: 2,
+        length: 2,
+        decimals: 2,
+        rows: 2,
     }
 }
 
@@ -194,6 +207,7 @@ pub(crate) fn run(
     match call {
         Call::Read(reader) => read(reader, given[0], given[1], given[2], input, came),
         Call::Header => read_header(given[0], input, came),
+        Call::Whole => find_whole(input, came),
         Call::Write(three) => write(three, given[0], list, came),
         Call::Event => make_event(list, came),
     }

@@ -1,4 +1,4 @@
-// The C interface: the readers, the writers and the event of a row under C names, and nothing but calls.
+// The C interface: the readers, the writers, the event of a row and the place from which on nothing is missing, under C names, and nothing but calls.
 //
 // include/fryskelom.h declares what stands here, under the names that C callers use. A slice passes as a pointer and a
 // length; the pointer is never null, and buffers do not overlap.
@@ -13,12 +13,14 @@ ghost use Rattle.evt2.specs.Reader as evt2;
 ghost use Rattle.evt2.specs.Spelling as evt2Words;
 ghost use Rattle.evt3.specs.Reader as evt3;
 ghost use Rattle.evt3.specs.Spelling as evt3Words;
+ghost use Rattle.join.specs.Seen.{wholeFrom, wholeNumbers};
 ghost use Rattle.raw.specs.declared.reader.Format.the-variants.{Evt2, Evt3};
 ghost use Rattle.raw.specs.Reader as raw;
 ghost use Rattle.dat.specs.Reader as dat;
 ghost use Rattle.aedat.specs.Reader as aedat;
 use events::EventNumbers;
 use header::HeaderNumbers;
+use join::WholeNumbers;
 use raw::Format;
 use rows::ReadingNumbers;
 use rows::WritingNumbers;
@@ -71,6 +73,14 @@ pub extern "C" fn fry_write_evt3(rows: &[u32], out: &mut [u8]) -> WritingNumbers
     ensures { λ r. ⌜ WroteNumbers evt3Words.spelling (now (rows .entry)) (now (out .entry)) (now (out .exit)) r ⌝ }
 {
     evt3::write(rows, out).numbers()
+}
+
+// The place in EVT3 words from which on a fresh reader of them misses no row.
+#[no_mangle]
+pub extern "C" fn fry_whole_evt3(bytes: &[u8]) -> WholeNumbers
+    ensures { λ r. ⌜ r ≡ wholeNumbers (wholeFrom (now (bytes .entry))) ⌝ }
+{
+    join::whole_from(bytes).numbers()
 }
 
 // The text header of a RAW or DAT file.

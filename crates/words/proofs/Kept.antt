@@ -2,7 +2,7 @@
 use mathlib.Core.Path.{_∙_, ap}
 use Rattle.words.specs.Words.{Words, wordsOf}
 use Rattle.words.specs.Machine.{run}
-use Rattle.words.specs.Promises.{FieldSmall, FieldPlaced, FieldParts, TypeFound, TypeBelow, FieldBytes, RoomRefused, WordsBack, RunTwoParts, RowsFit, RowsPass, PlacesWithin, KeptUp, RoundTrip}
+use Rattle.words.specs.Promises.{FieldSmall, FieldPlaced, FieldParts, TypeFound, TypeBelow, FieldBytes, RoomRefused, WordsBack, RunTwoParts, RowsFit, RowsOfWords, RowsPass, PlacesWithin, KeptUp, RoundTrip}
 use Rattle.words.proofs.BitFields as fields
 use Rattle.words.proofs.ByteFields as byteFields
 use Rattle.words.proofs.Bytes as bytes
@@ -12,6 +12,7 @@ use Rattle.words.proofs.Places.{reading-within}
 use Rattle.words.proofs.Returned.{comes-back}
 use Rattle.words.proofs.RowsGiven.{reading-fits, reading-passes}
 use Rattle.words.proofs.TwoParts.{run-join}
+use Rattle.words.proofs.WordByWord.{reading-rows}
 use Rattle.words.proofs.Writings.{room-exact}
 
 pub field-small : FieldSmall
@@ -45,6 +46,9 @@ run-two-parts S m k xs ys some h s place room =
 
 pub rows-fit : RowsFit
 rows-fit S m ws s place room = reading-fits m ws s place room
+
+pub rows-of-words : RowsOfWords
+rows-of-words S m ws s place room r e = reading-rows m ws s place room e
 
 pub rows-pass : RowsPass
 rows-pass S m test Kept k ws s place room h = reading-passes m k ws s place room h

@@ -13,6 +13,7 @@ pub mod Returned
 pub mod RowsGiven
 pub mod TwoParts
 pub mod Walks
+pub mod WordByWord
 pub mod Writes
 pub mod Writings
 pub mod Wrote

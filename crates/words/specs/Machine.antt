@@ -2,7 +2,7 @@
 use mathlib.Core.Path.{_≡_}
 use Prim.Native.Nat.{ℕ, _+_, _≤_}
 use mathlib.Core.Bool.{Bool, false, cond}
-use mathlib.Core.List.{List, []}
+use mathlib.Core.List.{List, [], _∷_}
 use lib.ListN.{drop}
 use Rattle.rows.specs.declared.fault.Fault.{Fault}
 use Rattle.rows.specs.declared.fault.Fault.the-variants.{Cut}
@@ -56,6 +56,16 @@ abbrev pub run : {S : Type 0} → Machine S → Words → S → ℕ → ℕ → 
 run m (word w ws) s place room = after (m .step s place w) place (m .origin s place) room (λ s′ room′. run m ws s′ (place + m .size) room′)
 run m whole s place room = stopped (finished (record { state = s; place = place }))
 run m part s place room = stopped (refused Cut (m .origin s place))
+
+-- the rows that each word gives, a list for each word; what follows a refusal is not read
+abbrev pub withWord : {S : Type 0} → Outcome S → (S → List (List Row)) → List (List Row)
+withWord (next s new) rest = new ∷ rest s
+withWord (fault f) rest = []
+
+abbrev pub rowsByWord : {S : Type 0} → Machine S → Words → S → ℕ → List (List Row)
+rowsByWord m (word w ws) s place = withWord (m .step s place w) (λ s′. rowsByWord m ws s′ (place + m .size))
+rowsByWord m whole s place = []
+rowsByWord m part s place = []
 
 -- at the end of the input a group in hand is cut, where it begins
 abbrev pub closed : {S : Type 0} → Machine S → Reached S → ℕ → Run (Reached S)

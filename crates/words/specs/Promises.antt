@@ -2,7 +2,7 @@
 use mathlib.Core.Path.{_≡_}
 use Prim.Native.Nat.{ℕ, _+_, _*_, _/_, _^_, _≤_, _<_}
 use mathlib.Core.Bool.{Bool}
-use mathlib.Core.List.{List, [], _∷_, _++_}
+use mathlib.Core.List.{List, [], _∷_, _++_, flatten}
 use lib.ListN.{length, take, drop, getD}
 use Rattle.rows.specs.declared.fault.Fault.the-variants.{NoRoom}
 use Rattle.rows.specs.declared.row.Row.{Row}
@@ -11,7 +11,7 @@ use Rattle.rows.specs.Rules.{accepted, refused, verdictOf}
 use Rattle.rows.specs.Runs.{finished, Run, andThen, EndsWithin, Finishes}
 use Rattle.words.specs.Words.{value, Words, word, wordsOf, bytesOfAll}
 use Rattle.words.specs.Fields.{field, typed, placed}
-use Rattle.words.specs.Machine.{Machine, Reached, run, reading, readFrom, Keeps, Follows, KeepsUp}
+use Rattle.words.specs.Machine.{Machine, Reached, run, rowsByWord, reading, readFrom, Keeps, Follows, KeepsUp}
 use Rattle.words.specs.RoundTrip.{ReadsBack, ComesBack}
 use Rattle.words.specs.Writer.{Spelling, spelled, writingVerdict}
 
@@ -71,6 +71,11 @@ RunTwoParts = (S : Type 0) (m : Machine S) (k : ℕ) (xs ys : List ℕ) → 0 < 
 -- no more rows are given than there is room for
 abbrev pub RowsFit : Type 1
 RowsFit = (S : Type 0) (m : Machine S) (ws : Words) (s : S) (place room : ℕ) → length (reading m ws s place room .rows) ≤ room
+
+-- a reading that finishes gives the rows of its words, one word after the other
+abbrev pub RowsOfWords : Type 1
+RowsOfWords = (S : Type 0) (m : Machine S) (ws : Words) (s : S) (place room : ℕ) (r : Reached S) → reading m ws s place room .ending ≡ finished r
+    → reading m ws s place room .rows ≡ flatten (rowsByWord m ws s place)
 
 -- where the rows of every word pass a test, all rows of a machine do
 abbrev pub RowsPass : Type 1

@@ -7,7 +7,7 @@ use super::recording::{name_of, unreadable};
 use super::rows::Lines;
 use super::selection::{self, Selection};
 use super::view::{self, View};
-use super::{claims, help, refusals, Failure};
+use super::{claims, help, join, refusals, Failure};
 use fryskelom::EVT_SIDE;
 use std::ffi::{OsStr, OsString};
 use std::fs::{self, File};
@@ -27,6 +27,8 @@ pub struct Source {
     pub path: OsString,
     pub format: &'static Format,
     pub asked: Asked,
+    /// The byte at which it is joined, if not at its first word.
+    pub join: Option<u64>,
     /// Whether to do what is otherwise declined.
     pub force: bool,
 }
@@ -54,7 +56,7 @@ const TO: &[Opt] = &[Opt { name: "--to", values: &["WORDS"] }];
 
 const COMMANDS: [Command; 4] = [
     Command {
-        syntax: Syntax { name: "info", arguments: &["FILE"], options: &[SOURCE, selection::OPTIONS, view::OPTIONS] },
+        syntax: Syntax { name: "info", arguments: &["FILE"], options: &[SOURCE, join::OPTIONS, selection::OPTIONS, view::OPTIONS] },
         help: help::info,
         request: |given| {
             let view = View::given(&given)?;
@@ -62,7 +64,7 @@ const COMMANDS: [Command; 4] = [
         },
     },
     Command {
-        syntax: Syntax { name: "rows", arguments: &["FILE"], options: &[SOURCE, selection::OPTIONS, view::OPTIONS, LINES] },
+        syntax: Syntax { name: "rows", arguments: &["FILE"], options: &[SOURCE, join::OPTIONS, selection::OPTIONS, view::OPTIONS, LINES] },
         help: help::rows,
         request: |given| {
             let (view, lines) = (View::given(&given)?, lines(&given)?);
@@ -139,7 +141,7 @@ fn source(given: &Given) -> Result<Source, Failure> {
     if format.head != Head::None && (asked.width.is_some() || asked.height.is_some()) {
         return Err(format!("--width and --height go with {} alone: {PICTURES}", listed(bare(), "--format ", "and")).into());
     }
-    Ok(Source { path, format, asked, force: given.has("--force") })
+    Ok(Source { path, format, asked, join: join::given(given, format)?, force: given.has("--force") })
 }
 
 /// The pixels of a side.

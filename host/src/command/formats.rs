@@ -2,7 +2,7 @@
 use super::claims::Says;
 use fryskelom::{
     most_rows_aedat, most_rows_dat, most_rows_evt2, most_rows_evt3, most_words_evt2, most_words_evt3, read_aedat, read_dat, read_evt2, read_evt3,
-    read_raw_evt2, read_raw_evt3, write_evt2, write_evt3, Fault, RowFault, DAT_SIDE, EVT3_WRAP, EVT_SIDE,
+    read_raw_evt2, read_raw_evt3, whole_evt3, write_evt2, write_evt3, Fault, RowFault, DAT_SIDE, EVT3_WRAP, EVT_SIDE,
 };
 use std::ffi::OsStr;
 use std::fmt::Display;
@@ -28,12 +28,23 @@ pub struct Format {
     pub most_rows: fn(usize) -> usize,
     /// As many rows as there is room for at first.
     pub first_rows: fn(usize) -> usize,
+    /// How its words are read from one of them on, where that is possible.
+    pub joined: Option<Joined>,
     /// How it is written, where it is.
     words: Option<Words>,
 }
 
+/// Words that can be read from any of them on.
+#[derive(Clone, Copy)]
+pub struct Joined {
+    /// The library's reading of the words from there on.
+    pub read: Read,
+    /// From which of their bytes on it misses no row.
+    pub whole: fn(&[u8]) -> Option<usize>,
+}
+
 /// Reads bytes into rows. What was asked of the picture counts for bare words alone.
-type Read = fn(&[u8], Asked, &mut [u32]) -> Result<usize, Fault>;
+pub type Read = fn(&[u8], Asked, &mut [u32]) -> Result<usize, Fault>;
 
 /// What stands before the data, and says how large the picture is.
 #[derive(Clone, Copy, PartialEq)]
@@ -74,6 +85,9 @@ const WORDS: &str = "bare words, without a header";
 const RAW: &str = "a RAW file of such words";
 const TOLD: &str = "a DAT file, an AEDAT 3.1 file";
 
+const EVT3: Read = |bytes, asked, rows| read_evt3(bytes, side(asked.width), side(asked.height), rows);
+const EVT3_JOINED: Joined = Joined { read: EVT3, whole: whole_evt3 };
+
 /// An EVT3 word can give twelve rows, but on the whole there is seldom more than one a word: room for more is asked for when it is needed.
 pub const FORMATS: &[Format] = &[
     Format {
@@ -87,6 +101,7 @@ pub const FORMATS: &[Format] = &[
         wrap: None,
         most_rows: most_rows_evt2,
         first_rows: most_rows_evt2,
+        joined: None,
         words: Some(Words {
             holds: "pixels of camera 0 alone, below 2048 by 2048, triggers of channels 0 to 31, IMU counts",
             size: 4,
@@ -101,10 +116,11 @@ pub const FORMATS: &[Format] = &[
         suffix: None,
         head: Head::None,
         own: &[],
-        read: |bytes, asked, rows| read_evt3(bytes, side(asked.width), side(asked.height), rows),
+        read: EVT3,
         wrap: Some(EVT3_WRAP),
         most_rows: most_rows_evt3,
         first_rows: |bytes| bytes / 2,
+        joined: Some(EVT3_JOINED),
         words: Some(Words {
             holds: "pixels of cameras 0 and 1, below 2048 by 2048, triggers of channels 0 to 15",
             size: 2,
@@ -123,6 +139,7 @@ pub const FORMATS: &[Format] = &[
         wrap: None,
         most_rows: most_rows_evt2,
         first_rows: most_rows_evt2,
+        joined: None,
         words: None,
     },
     Format {
@@ -136,6 +153,7 @@ pub const FORMATS: &[Format] = &[
         wrap: Some(EVT3_WRAP),
         most_rows: most_rows_evt3,
         first_rows: |bytes| bytes / 2,
+        joined: Some(EVT3_JOINED),
         words: None,
     },
     Format {
@@ -149,6 +167,7 @@ pub const FORMATS: &[Format] = &[
         wrap: None,
         most_rows: most_rows_dat,
         first_rows: most_rows_dat,
+        joined: None,
         words: None,
     },
     Format {
@@ -162,6 +181,7 @@ pub const FORMATS: &[Format] = &[
         wrap: None,
         most_rows: most_rows_aedat,
         first_rows: most_rows_aedat,
+        joined: None,
         words: None,
     },
 ];
@@ -192,6 +212,11 @@ pub fn names() -> impl Iterator<Item = &'static str> {
 /// The names of the formats of bare words.
 pub fn bare() -> impl Iterator<Item = &'static str> {
     FORMATS.iter().filter(|format| format.head == Head::None).map(|format| format.name)
+}
+
+/// The names of the formats whose words can be read from any of them on.
+pub fn joined() -> impl Iterator<Item = &'static str> {
+    FORMATS.iter().filter(|format| format.joined.is_some()).map(|format| format.name)
 }
 
 /// The names of the words that RAW files hold.

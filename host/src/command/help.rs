@@ -1,5 +1,5 @@
 //! The help texts, in lines of at most 80 columns. What they say of the formats is taken from the table.
-use super::formats::{bare, capitals, listed, names_written, suffixes, written, Format, FORMATS};
+use super::formats::{bare, capitals, joined, listed, names_written, suffixes, written, Format, FORMATS};
 use super::names::called;
 use super::{columns, selection};
 
@@ -131,6 +131,14 @@ fn filters() -> String {
     .concat()
 }
 
+/// The option that begins part way.
+fn join() -> String {
+    let from = format!("begin at this byte of the file, at which a word has to begin; for {} only.", listed(joined(), "", "and"));
+    let told = "It is said from which byte on no event is missing. Times are then right up to a multiple of 16.777216 s, the same for all events. Bytes are \
+                counted from 0 at the start of the file, as in every message.";
+    option("--join BYTE", &format!("{from} {told}"))
+}
+
 const COMBINED: &str = "Filters, which can be combined; only events that pass all of them count:\n\n";
 
 pub fn info() -> String {
@@ -153,6 +161,7 @@ pub fn info() -> String {
         option("--bins MICROSECONDS", "how many bins of so many microseconds hold events, and the most in one"),
         "\n".to_string(),
         recording(FORCED),
+        join(),
     ]
     .concat()
 }
@@ -207,6 +216,7 @@ pub fn rows() -> String {
         "\n".to_string(),
         paragraph("If the recording is refused, the rows before are printed; the refusal follows on standard error, and the status is 1."),
         recording(FORCED),
+        join(),
     ]
     .concat()
 }

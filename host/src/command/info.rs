@@ -3,7 +3,7 @@ use super::arguments::Source;
 use super::events::{self, KINDS};
 use super::memory::Lack;
 use super::progress::Progress;
-use super::recording::{Input, Reading, Recording};
+use super::recording::{seconds, Input, Reading, Recording};
 use super::view::{Item, Looked, View};
 use super::{header, output, Failure};
 use fryskelom::{kind, MOST_BYTES};
@@ -21,7 +21,8 @@ pub fn print(source: &Source, view: &View) -> Result<(), Failure> {
     progress.done(reading.rows());
     let lack = |lack: Lack| Failure::Failed(lack.message("triggers or bins", &recording.name, "nothing was counted"));
     let about_rows = about_rows(&recording, &reading, view).map_err(lack)?;
-    let lines = [about_file(&recording), header::lines(&recording, reading.stop), about_rows].concat();
+    let joined = recording.join.iter().flat_map(|join| join.lines(reading.stop)).collect();
+    let lines = [about_file(&recording), header::lines(&recording, reading.stop), joined, about_rows].concat();
     drop(progress);
     output::write((lines.join("\n") + "\n").as_bytes())?;
     reading.end(&recording)
@@ -48,7 +49,8 @@ fn about_rows(recording: &Recording, reading: &Reading, view: &View) -> Result<V
     lines.extend(summary.kinds());
     lines.extend(summary.times());
     lines.push(format!("times out of order: {}", summary.behind));
-    lines.extend(recording.format.wrap.map(|wrap| summary.wraps(wrap)));
+    let counted = if recording.join.is_some() { " since it was joined" } else { "" };
+    lines.extend(recording.format.wrap.map(|wrap| summary.wraps(wrap, counted)));
     lines.extend(view.since.as_ref().map(|since| format!("time since the last {}: {}", since.title(), summary.since())));
     if let Some(microseconds) = view.bins {
         lines.extend(about_bins(&looked, microseconds)?);
@@ -138,18 +140,16 @@ impl Summary {
             return ["first time", "last time", "span"].map(|name| format!("{name}: none"));
         };
         let span = last - first;
-        // always six decimals, so that nobody takes the point for a separator of thousands
-        let seconds = format!("{}.{:06} s", span / 1_000_000, span % 1_000_000);
-        [format!("first time: {first} µs"), format!("last time: {last} µs"), format!("span: {span} µs, {seconds}")]
+        [format!("first time: {first} µs"), format!("last time: {last} µs"), format!("span: {span} µs, {}", seconds(span))]
     }
 
-    /// How often a clock that wraps after so many microseconds has done so. Times count every wrap, so that the first and the last one tell.
-    fn wraps(&self, wrap: u64) -> String {
+    /// How often a clock that wraps after so many microseconds has done so, since when. Times count every wrap, so that the first and the last one tell.
+    fn wraps(&self, wrap: u64, since: &str) -> String {
         let wraps = match self.times {
             Some((first, last)) => format!("{} before the last event, {} of them before the first", last / wrap, first / wrap),
             None => "not known, since there is no event".to_string(),
         };
-        format!("clock wraps: {wraps}; the clock wraps every {wrap} µs")
+        format!("clock wraps{since}: {wraps}; the clock wraps every {wrap} µs")
     }
 
     fn since(&self) -> String {

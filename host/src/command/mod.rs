@@ -8,6 +8,7 @@ mod formats;
 mod header;
 mod help;
 mod info;
+mod join;
 mod memory;
 mod names;
 mod options;

@@ -1,6 +1,7 @@
 //! A recording: the bytes of its file, and the rows that the library reads from them.
 use super::arguments::Source;
-use super::formats::{Asked, Format};
+use super::formats::{Asked, Format, Read};
+use super::join::Join;
 use super::memory::{zeros, Lack};
 use super::names::shown;
 use super::progress::Progress;
@@ -10,7 +11,7 @@ use fryskelom::{Fault, Refusal, MOST_BYTES, ROW_NUMBERS};
 use std::ffi::OsStr;
 use std::fs::{File, Metadata};
 use std::hint::black_box;
-use std::io::{self, Read, Seek};
+use std::io::{self, Read as _, Seek};
 use std::os::unix::fs::MetadataExt;
 
 /// How much of a file is read at once.
@@ -24,6 +25,8 @@ pub struct Recording {
     pub name: String,
     pub format: &'static Format,
     pub asked: Asked,
+    /// Where it is joined, if not at its first word.
+    pub join: Option<Join>,
     /// Nothing where a file's length alone tells that it is refused.
     pub bytes: Vec<u8>,
     /// How many bytes there are; not known of a stream that is longer than any input that is read.
@@ -87,9 +90,12 @@ impl Input {
     pub fn load(mut self, source: &Source, progress: &Progress) -> Result<Recording, Failure> {
         let length = self.length();
         let Input { name, file, .. } = self;
-        let mut recording = Recording { name, format: source.format, asked: source.asked, bytes: vec![], length };
+        let mut recording = Recording { name, format: source.format, asked: source.asked, join: None, bytes: vec![], length };
         if length.is_none_or(|length| length <= MOST_BYTES as u64) {
             recording.fill(file, source.force, progress)?;
+        }
+        if let Some(byte) = source.join {
+            recording.join = Join::at(byte, &recording)?;
         }
         Ok(recording)
     }
@@ -150,12 +156,17 @@ impl Recording {
             Ok(spare) => black_box(spare),
             Err(lack) => return Reading { numbers: vec![], rows: 0, stop: Some(Stop::Full(lack)) },
         };
-        let most = (self.format.most_rows)(self.bytes.len());
-        let mut numbers = largest((self.format.first_rows)(self.bytes.len()));
+        let (from, read, asked): (usize, Read, Asked) = match &self.join {
+            Some(join) => (join.byte, join.words.read, join.asked),
+            None => (0, self.format.read, self.asked),
+        };
+        let bytes = &self.bytes[from..];
+        let most = (self.format.most_rows)(bytes.len());
+        let mut numbers = largest((self.format.first_rows)(bytes.len()));
         loop {
-            let fault = match (self.format.read)(&self.bytes, self.asked, &mut numbers) {
+            let fault = match read(bytes, asked, &mut numbers) {
                 Ok(rows) => return Reading { numbers, rows, stop: None },
-                Err(fault) => fault,
+                Err(fault) => Fault { place: from + fault.place, ..fault },
             };
             let room = numbers.len() / ROW_NUMBERS;
             if fault.refusal != Refusal::NO_ROOM || room >= most {
@@ -228,4 +239,9 @@ impl Reading {
 /// The time of a row, in microseconds.
 pub fn time_of(row: &[u32]) -> u64 {
     u64::from(row[2]) << 32 | u64::from(row[1])
+}
+
+/// Microseconds as seconds: always six decimals, so that nobody takes the point for a separator of thousands.
+pub fn seconds(microseconds: u64) -> String {
+    format!("{}.{:06} s", microseconds / 1_000_000, microseconds % 1_000_000)
 }

@@ -26,6 +26,9 @@ pub fn print(source: &Source, view: &View, lines: &Lines) -> Result<(), Failure>
     let recording = Input::open(source)?.load(source, &progress)?;
     let reading = recording.read(&progress);
     header::note(&recording, &progress);
+    if let Some(join) = &recording.join {
+        progress.note(&format!("note: {}", join.lines(reading.stop).join("; ")));
+    }
     let lack = |lack: Lack| Failure::Failed(lack.message("triggers or bins", &recording.name, "nothing was printed"));
     let looked = view.look(reading.numbers()).map_err(lack)?;
     looked.lack_of_edges().iter().for_each(|note| progress.note(note));

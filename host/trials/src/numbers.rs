@@ -47,9 +47,16 @@ fn read_file(reader: sys::FileReader, bytes: &[u8], rows: &mut [u32]) -> (u64, u
     (reading.refusal, reading.rows, reading.place)
 }
 
+/// Whether there is such a byte, and the byte.
+pub fn whole_evt3(bytes: &[u8]) -> (u64, u64) {
+    // SAFETY: the pointer and the length are those of a slice, which is not null.
+    let whole = unsafe { sys::fry_whole_evt3(bytes.as_ptr(), bytes.len()) };
+    (whole.seen, whole.place)
+}
+
 /// The refusal, the place, the width and the height.
 pub fn read_header(bytes: &[u8], limit: u32) -> (u64, u64, u32, u32) {
-    // SAFETY: the pointer and the length are those of a slice, which is not null.
+    // SAFETY: as in `whole_evt3`.
     let header = unsafe { sys::fry_read_header(bytes.as_ptr(), bytes.len(), limit) };
     (header.refusal, header.place, header.width, header.height)
 }
@@ -72,7 +79,7 @@ fn write_words(writer: sys::WordWriter, rows: &[u32], out: &mut [u8]) -> (u64, u
 
 /// The refusal, kind, time, data and the bits of the readings.
 pub fn event_of(row: &[u32]) -> (u64, u64, u64, [u32; 7], [u32; 7]) {
-    // SAFETY: as in `read_header`.
+    // SAFETY: as in `whole_evt3`.
     let event = unsafe { sys::fry_event_of(row.as_ptr(), row.len()) };
     (event.refusal, event.kind, event.time, event.data, event.readings.map(f32::to_bits))
 }

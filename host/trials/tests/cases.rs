@@ -9,7 +9,8 @@ mod table;
 
 use answer::answer;
 use fryskelom::{
-    read_aedat, read_dat, read_evt2, read_evt3, read_header, read_raw_evt2, read_raw_evt3, write_evt2, write_evt3, Fault, Header, RowFault,
+    read_aedat, read_dat, read_evt2, read_evt3, read_header, read_raw_evt2, read_raw_evt3, whole_evt3, write_evt2, write_evt3, Fault, Header,
+    RowFault,
 };
 use std::collections::BTreeSet;
 use std::panic::{catch_unwind, AssertUnwindSafe};
@@ -25,6 +26,9 @@ type Writer = fn(&[u32], &mut [u8]) -> (u64, u64);
 
 /// Answers the refusal, the place, the width and the height.
 type HeaderReader = fn(&[u8], u32) -> (u64, u64, u32, u32);
+
+/// Answers whether there is such a byte, and the byte.
+type Finder = fn(&[u8]) -> (u64, u64);
 
 /// Fails where one of those who are held to a case does not answer as it states.
 type Check = Box<dyn Fn()>;
@@ -47,6 +51,10 @@ fn writer_answer(writing: Result<usize, RowFault>) -> (u64, u64) {
 
 fn header_answer(header: Result<Header, Fault>) -> (u64, u64, u32, u32) {
     header.map_or_else(|fault| (fault.refusal.0, fault.place as u64, 0, 0), |header| (0, header.data as u64, header.width, header.height))
+}
+
+fn finder_answer(byte: Option<usize>) -> (u64, u64) {
+    byte.map_or((0, 0), |byte| (1, byte as u64))
 }
 
 fn second_header(bytes: &[u8], limit: u32) -> (u64, u64, u32, u32) {
@@ -101,6 +109,14 @@ const HEADER_READERS: [HeaderReader; 4] = [
     second_header,
 ];
 
+/// Those who find the byte from which on no row is missing.
+const FINDERS: [Finder; 4] = [
+    numbers::whole_evt3,
+    |bytes| finder_answer(whole_evt3(bytes)),
+    |bytes| finder_answer(fast::evt3::whole(bytes)),
+    |bytes| finder_answer(second::evt3::whole(bytes)),
+];
+
 const EVT2_WRITERS: [Writer; 4] = [
     numbers::write_evt2,
     |rows, out| writer_answer(write_evt2(rows, out)),
@@ -142,6 +158,10 @@ fn read_the_header(case: Case, reader: HeaderReader) {
     assert_eq!(reader(&case.bytes(), case.given(2_048)[0]), (refusal, place, width as u32, height as u32), "{}", case.title());
 }
 
+fn find(case: Case, finder: Finder) {
+    assert_eq!(finder(&case.bytes()), case.answer::<2>().into(), "{}", case.title());
+}
+
 /// The numbers of an event: the refusal, those of its row, and its readings, any NaN as one.
 type EventNumbers = (u64, [u32; 10], [u32; 7]);
 
@@ -178,6 +198,7 @@ fn checks(case: Case) -> Vec<Check> {
         "event" => [event_by_library, event_by_second].into_iter().map(|event| Box::new(move || make_event(case, event)) as Check).collect(),
         "row" => vec![],
         "header" => HEADER_READERS.into_iter().map(|reader| Box::new(move || read_the_header(case, reader)) as Check).collect(),
+        "whole" => FINDERS.into_iter().map(|finder| Box::new(move || find(case, finder)) as Check).collect(),
         "write-evt2" => by_writers(EVT2_WRITERS, "evt2"),
         "write-evt3" => by_writers(EVT3_WRITERS, "evt3"),
         call => readers(call).into_iter().map(|reader| Box::new(move || read(case, reader)) as Check).collect(),

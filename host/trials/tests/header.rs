@@ -35,6 +35,11 @@ static void show_reading(reader *read, const uint8_t *bytes, size_t len) {
     show_rows(read(bytes, len, 1280, 720, rows, 20), rows);
 }
 
+static void show_whole(const uint8_t *bytes, size_t len) {
+    fry_whole w = fry_whole_evt3(bytes, len);
+    printf("%" PRIu64 " %" PRIu64 "\n", w.seen, w.place);
+}
+
 static const char text[] = "% width: 640\n% Height 480\n";
 static const char lines[] = "#!AER-DAT3.1\r\n#Format: RAW\r\n#!END-HEADER\r\n";
 
@@ -79,6 +84,9 @@ int main(void) {
     show_reading(fry_read_evt3, evt3, 10);
     const uint8_t cameras[12] = {0x01, 0x80, 0x02, 0x60, 0x03, 0x00, 0x05, 0x28, 0x03, 0x08, 0x05, 0x28};
     show_reading(fry_read_evt3, cameras, 12);
+    const uint8_t words[9] = {0x01, 0x80, 0x02, 0x60, 0x03, 0x00, 0x04, 0x30, 0x05};
+    show_whole(words, 9);
+    show_whole(words, 7);
     const uint8_t evt2[12] = {0x01, 0x00, 0x00, 0x80, 0x03, 0x28, 0x80, 0x10, 0x00, 0x00, 0x00, 0x20};
     show_reading(fry_read_evt2, evt2, 8);
     show_reading(fry_read_evt2, evt2, 12);
@@ -104,7 +112,7 @@ int main(void) {
                                0x0f, 0x00, 0x0a, 0x00, 0x07, 0x00, 0x00, 0x00, 5};
     show_file(fry_read_aedat, lines, aedat, 36);
     show_file(fry_read_aedat, lines, aedat, 64);
-    return sizeof(fry_reading) == 24 && sizeof(fry_writing) == 16 && sizeof(fry_header) == 24 ? 0 : 1;
+    return sizeof(fry_reading) == 24 && sizeof(fry_writing) == 16 && sizeof(fry_header) == 24 && sizeof(fry_whole) == 16 ? 0 : 1;
 }
 "##;
 
@@ -116,6 +124,8 @@ const EXPECTED: &str = "\
 0 1 0 1 4098 0 5 3 1 0 0 0 0 7 7 7 7 7 7 7 7 7 7
 3 1 8 1 4098 0 5 3 1 0 0 0 0 7 7 7 7 7 7 7 7 7 7
 0 2 0 1 4098 0 5 3 1 0 0 0 0 1 4098 0 5 3 1 1 0 0 0
+1 8
+0 0
 0 1 0 1 66 0 5 3 1 0 0 0 0 7 7 7 7 7 7 7 7 7 7
 3 1 8 1 66 0 5 3 1 0 0 0 0 7 7 7 7 7 7 7 7 7 7
 0 2 01 00 00 80 03 28 80 10 07 07 07 07

@@ -3,7 +3,6 @@ use super::{admit, fits, pixel, time_of, trigger, Never, Row, HIGH, NONE};
 use fryskelom::{Fault, Refusal, RowFault};
 use std::slice::IterMut;
 
-
 type Word = [u8; 4];
 
 /// A refusal, and how many words after the first one its place is.

@@ -8,7 +8,6 @@ pub mod evt2;
 pub mod evt3;
 pub mod header;
 
-
 const MOST_BYTES: usize = 1 << 30;
 const MOST_ROWS: usize = 1 << 24;
 const SIDE: u32 = 2_048;

@@ -166,6 +166,16 @@ fn refusal_of(word: Word, bad_time: bool, rows: &[Row], width: u32, height: u32,
     }
 }
 
+/// The byte from which on a fresh reader of some bytes misses no row: the one after the first TIME_HIGH, the first TIME_LOW after that, the first ADDR_Y and
+/// the first BASE_X, whichever of them comes last.
+pub fn whole(bytes: &[u8]) -> Option<usize> {
+    let kinds: Vec<u32> = bytes.chunks_exact(2).map(|word| Word::of_bytes(word[0], word[1]).kind).collect();
+    let first = |kind: u32, from: usize| (from..kinds.len()).find(|&i| kinds[i] == kind);
+    let low = first(TIME_LOW, first(TIME_HIGH, 0)?)?;
+    let last = low.max(first(ADDR_Y, 0)?).max(first(BASE_X, 0)?);
+    Some(2 * (last + 1))
+}
+
 /// Writes a list of numbers into a buffer of so many bytes.
 pub fn write(numbers: &[u32], lent: usize) -> Writing {
     let words_of = |rows: &[Row]| spelling(rows).iter().map(|word| 4_096 * word.kind + word.data).collect();

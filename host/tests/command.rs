@@ -9,6 +9,8 @@ mod filters;
 mod info;
 #[path = "command/inputs.rs"]
 mod inputs;
+#[path = "command/join.rs"]
+mod join;
 #[path = "command/limits.rs"]
 mod limits;
 #[path = "command/out.rs"]

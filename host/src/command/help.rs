@@ -134,7 +134,7 @@ fn filters() -> String {
 /// The option that begins part way.
 fn join() -> String {
     let from = format!("begin at this byte of the file, at which a word has to begin; for {} only.", listed(joined(), "", "and"));
-    let told = "It is said from which byte on no event is missing. Times are then right up to a multiple of 16.777216 s, the same for all events. Bytes are \
+    let told = "It is said from which byte on no event is missing. Times are then right up to a multiple of 16777216 microseconds, the same for all events. Bytes are \
                 counted from 0 at the start of the file, as in every message.";
     option("--join BYTE", &format!("{from} {told}"))
 }

@@ -34,7 +34,7 @@ pub fn given(given: &Given, format: &Format) -> Result<Option<u64>, String> {
 fn is_word(byte: u64, first: u64) -> Result<(), String> {
     match byte.checked_sub(first) {
         None => Err(format!("--join {byte}: that is in the header; the words begin at byte {first}")),
-        Some(far) if far % 2 == 1 => Err(format!("--join {byte}: that is inside a word; words begin at bytes {} and {}", byte - 1, byte + 1)),
+        Some(far) if far % 2 == 1 => Err(format!("--join {byte}: that is inside the word that begins at byte {}", byte - 1)),
         Some(_) => Ok(()),
     }
 }
@@ -51,10 +51,10 @@ impl Join {
             },
             _ => (0, recording.asked),
         };
-        is_word(byte, first as u64)?;
         let Some(rest) = usize::try_from(byte).ok().and_then(|byte| bytes.get(byte..)) else {
             return Err(format!("--join {byte}: {} has only {} bytes", recording.name, bytes.len()));
         };
+        is_word(byte, first as u64)?;
         let (byte, words) = (byte as usize, format.joined.expect("it was asked when the arguments were looked at"));
         Ok(Some(Join { byte, words, asked, whole: (words.whole)(rest).map(|whole| byte + whole) }))
     }

@@ -48,11 +48,12 @@ fn options_in_the_help() {
     }
 }
 
-const OPTIONS: [&str; 15] = [
+const OPTIONS: [&str; 16] = [
     "--format",
     "--width",
     "--height",
     "--force",
+    "--join",
     "--from",
     "--until",
     "--kind",
@@ -186,6 +187,17 @@ const WRONG: &[(&str, &str)] = &[
     ("info a --format raw-evt2 --height 480", "--width and --height go with"),
     ("info a.dat --width 640", "--width and --height go with"),
     ("convert a.aedat b --to evt2 --height 480", "--width and --height go with"),
+    // joining: of words that have no header the byte tells enough
+    ("rows a --format evt3 --join 12,500", "--join 12,500: a whole number in digits alone is needed"),
+    ("info a --format evt3 --join -2", "--join -2: a whole number"),
+    ("rows a --format evt3 --join", "--join needs a value after it"),
+    ("rows a --format evt3 --join 7", "--join 7: that is inside the word that begins at byte 6\n"),
+    ("info - --format EVT3 --join=18446744073709551615", "--join 18446744073709551615: that is inside the word that begins at byte 18446744073709551614\n"),
+    ("rows a --format evt2 --join 8", "--join goes with --format evt3 and --format raw-evt3 alone: other recordings can be read from their start only\n"),
+    ("info a --format raw-evt2 --join 7", "--join goes with --format evt3 and --format raw-evt3 alone: "),
+    ("rows a.dat --join 8", "--join goes with"),
+    ("info a.aedat --join 8", "--join goes with"),
+    ("convert a b --format evt3 --to evt3 --join 8", "convert has no option --join"),
     // filters
     ("rows a.dat --from 12,500", "--from 12,500: a whole number in digits alone is needed"),
     ("rows a.dat --until 12.5", "--until 12.5: a whole number"),

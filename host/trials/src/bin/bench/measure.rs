@@ -57,6 +57,12 @@ pub fn writing(rows: &[u32], room: usize, size: usize, rounds: usize, ways: [Way
     Measured { bytes: size_of_val(rows), rows: rows.len() / 10, rounds }
 }
 
+/// Times two that look through a recording and put nothing anywhere; they answer how many words they have looked at.
+pub fn looking(bytes: &[u8], rounds: usize, ways: [Way<u8, u8>; 2]) -> Measured {
+    let (rows, rounds) = measure(bytes, vec![], 0, rounds, ways);
+    Measured { bytes: bytes.len(), rows, rounds }
+}
+
 /// Times two ways after both have put the same into the buffer: so many rows or words of a size.
 fn measure<I, O>(input: &[I], mut buffer: Vec<O>, size: usize, rounds: usize, [by_hand, library]: [Way<I, O>; 2]) -> (usize, Vec<Round>)
 where

@@ -1,6 +1,6 @@
 //! What is measured: made-up recordings with two readers of each, and lists of rows with two writers.
-use crate::measure::{reading, writing, Measured, Way};
-use fryskelom::{read_aedat, read_dat, read_evt2, read_evt3, read_raw_evt2, read_raw_evt3, write_evt2, write_evt3, Fault};
+use crate::measure::{looking, reading, writing, Measured, Way};
+use fryskelom::{read_aedat, read_dat, read_evt2, read_evt3, read_raw_evt2, read_raw_evt3, whole_evt3, write_evt2, write_evt3, Fault};
 use trials::fast;
 use trials::samples::header::header;
 use trials::samples::{aedat, dat, evt2, evt3, Numbers, Picture};
@@ -24,13 +24,14 @@ const fn growing(name: &'static str, measure: fn(usize, usize) -> Measured) -> S
     Stream { name, measure, grows: true }
 }
 
-pub const STREAMS: [Stream; 19] = [
+pub const STREAMS: [Stream; 20] = [
     stream("EVT3, single pixels", |events, rounds| reading_evt3(evt3::Scene::Pixels, events, rounds)),
     stream("EVT3, dense vectors", |events, rounds| reading_evt3(evt3::Scene::Dense, events, rounds)),
     stream("EVT3, sparse vectors", |events, rounds| reading_evt3(evt3::Scene::Sparse, events, rounds)),
     growing("EVT3, mixed", |events, rounds| reading_evt3(evt3::Scene::Mixed, events, rounds)),
     stream("EVT3, two cameras", |events, rounds| reading_evt3(evt3::Scene::TwoCameras, events, rounds)),
     growing("RAW of EVT3, mixed", reading_raw_evt3),
+    growing("EVT3, whole from nowhere on", looking_evt3),
     stream("EVT2, single pixels", |events, rounds| reading_evt2(evt2::Scene::Pixels, events, rounds)),
     growing("EVT2, mixed with IMU", |events, rounds| reading_evt2(evt2::Scene::Mixed, events, rounds)),
     stream("EVT2, mostly IMU", |events, rounds| reading_evt2(evt2::Scene::Motion, events, rounds)),
@@ -81,6 +82,14 @@ fn reading_raw_evt2(events: usize, rounds: usize) -> Measured {
     let by_hand: Way<u8, u32> = |bytes, rows| raw_by_hand(fast::evt2::read, bytes, rows).expect("no refusal");
     let library: Way<u8, u32> = |bytes, rows| read_raw_evt2(bytes, rows).expect("no refusal");
     reading(&bytes, room(events), rounds, [by_hand, library])
+}
+
+/// A recording of single pixels, which has no VECT_BASE_X: all of its words are looked at, and these are what the table calls rows.
+fn looking_evt3(events: usize, rounds: usize) -> Measured {
+    let bytes = evt3::recording(evt3::Scene::Pixels, PICTURE, 0, events, &mut numbers());
+    let by_hand: Way<u8, u8> = |bytes, _| fast::evt3::whole(bytes).unwrap_or(bytes.len()) / 2;
+    let library: Way<u8, u8> = |bytes, _| whole_evt3(bytes).unwrap_or(bytes.len()) / 2;
+    looking(&bytes, rounds, [by_hand, library])
 }
 
 /// A RAW file of words.

@@ -14,9 +14,10 @@ use Rattle.evt3.specs.declared.state.State.{State}
 use Rattle.evt3.specs.Words.{pixels, pixelOf, columns, vectorOf, triggerOf}
 use Rattle.join.specs.declared.seen.Seen.{Seen}
 use Rattle.join.specs.Seen.{allSeen}
+use Rattle.join.proofs.AllSeen.{is-low, is-y, is-base}
 use Rattle.join.proofs.Behind.{Behind, Covers}
 use Rattle.join.proofs.Later.{later-timed, laterGiven, given-later}
-use Rattle.join.proofs.Logic.{not-both, and-both}
+use Rattle.join.proofs.Logic.{and-both}
 
 -- the same n wraps later, or nothing to the joined reader, where that may be
 pub data Answers (n : ℕ) (sure : Bool) (joined full : Given) : Type 0 where
@@ -33,22 +34,13 @@ if-known false joined full false b f g h = none refl refl
 
 -- the words that give events
 module _ {n : ℕ} {seen : Seen} {s t : State} (h : Behind n s t) (c : Covers seen s) where
-  timed : allSeen seen ≡ true → s .known .time ≡ true
-  timed e = c .time (and-second (seen .high) _ (and-first (seen .high && seen .low) _ (and-first (seen .high && seen .low && seen .y) _ e)))
-
-  lined : allSeen seen ≡ true → s .known .y ≡ true
-  lined e = c .y (and-second (seen .high && seen .low) _ (and-first (seen .high && seen .low && seen .y) _ e))
-
-  based : allSeen seen ≡ true → s .known .base ≡ true
-  based e = c .base (and-second (seen .high && seen .low && seen .y) _ e)
-
   pub pixel-answers : (p : Picture) (w : ℕ) → Answers n (allSeen seen) (pixelOf p s w) (pixelOf p t w)
   unfolding pixelOf
   pixel-answers p w =
       if-known (allSeen seen) _ _ (s .known .time && s .known .y) (t .known .time && t .known .y)
       (λ e. and-both _ _ (h .time (at-time e) .0) (h .y (at-y e) .0))
       (λ e. given-later n p s t (field 11 1 w) (field 0 11 w ∷ []) (h .y (at-y e) .1) (h .y (at-y e) .2) (h .time (at-time e) .1))
-      (λ e. and-both _ _ (timed e) (lined e))
+      (λ e. and-both _ _ (c .time (is-low seen e)) (c .y (is-y seen e)))
     where
       at-time : s .known .time && s .known .y ≡ true → s .known .time ≡ true
       at-time e = and-first (s .known .time) _ e
@@ -64,7 +56,7 @@ module _ {n : ℕ} {seen : Seen} {s t : State} (h : Behind n s t) (c : Covers se
       (λ e.
       ap₂ (λ (polarity base : ℕ). pixels p t polarity (columns 12 base bits)) (h .base (at-base e) .2) (h .base (at-base e) .1)
       ∙ given-later n p s t (s .polarity) (columns 12 (s .base) bits) (h .y (at-y e) .1) (h .y (at-y e) .2) (h .time (at-time e) .1))
-      (λ e. and-both _ _ (and-both _ _ (timed e) (lined e)) (based e))
+      (λ e. and-both _ _ (and-both _ _ (c .time (is-low seen e)) (c .y (is-y seen e))) (c .base (is-base seen e)))
     where
       at-base : s .known .time && s .known .y && s .known .base ≡ true → s .known .base ≡ true
       at-base e = and-second (s .known .time && s .known .y) _ e
@@ -82,4 +74,4 @@ module _ {n : ℕ} {seen : Seen} {s t : State} (h : Behind n s t) (c : Covers se
       (λ e.
       ap (λ (x : ℕ). gives (triggerRow x (field 8 4 w) (field 0 1 w) ∷ [])) (h .time e .1)
       ∙ ap (λ (r : Row). gives (r ∷ [])) (later-timed n 2 (s .time) (field 8 4 w) (field 0 1 w) 0 0 0 0 0))
-      timed
+      (λ e. c .time (is-low seen e))

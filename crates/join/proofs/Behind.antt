@@ -11,7 +11,7 @@ use Rattle.evt3.specs.State.{fresh, withHigh, withTime, withY, withBase, movedB
 use Rattle.evt3.specs.Words.{withLow}
 use Rattle.join.specs.declared.seen.Seen.{Seen}
 use Rattle.join.specs.Seen.{noneSeen, seenWith}
-use Rattle.join.proofs.Logic.{not-both}
+use Rattle.join.proofs.Logic.{not-both, or-either}
 
 -- s is the joined reader's state, t the full reader's
 pub record Behind (n : ℕ) (s t : State) : Type 0 where
@@ -106,7 +106,13 @@ module _ {seen : Seen} {s : State} (c : Covers seen s) where
     where
       go : (a : Bool) → s .known .high ≡ a → Covers (seenWith TimeLow seen) (cond a (withTime s (s .wraps * 16777216 + s .high * 4096 + low)) s)
       go true e = record { high = c .high; time = λ _. refl; y = c .y; base = c .base }
-      go false e = record { high = c .high; time = λ f. not-both (s .known .high) (c .high f) e; y = c .y; base = c .base }
+      go false e =
+          record {
+            high = c .high;
+            time = λ f. or-either (seen .high) (seen .low) f (λ g. not-both (s .known .high) (c .high g) e) (c .time);
+            y = c .y;
+            base = c .base;
+          }
 
   pub moved-covers : (columns : ℕ) → Covers seen (moved columns s)
   unfolding moved

@@ -6,17 +6,21 @@ use lib.ListN.{drop}
 use borrow.Author.Tests.{le-leb}
 use Rattle.words.specs.Words.{wordsOf}
 use Rattle.join.specs.declared.whole.Whole.{Whole}
-use Rattle.join.specs.Promises.{LaterTime, JoinPartWay, passedAt, WholeExact, NoneMissing}
+use Rattle.join.specs.Promises.{LaterTime, JoinPartWay, SeenExact, passedAt, WholeExact, NoneMissing}
 use Rattle.join.specs.Seen.{noneSeen, wholeFrom}
 use Rattle.join.proofs.Later as later
 use Rattle.join.proofs.PartWay.{joins}
 use Rattle.join.proofs.Places.{passed}
+use Rattle.join.proofs.Types.{four-seen, seen-four}
 
 pub later-time : LaterTime
 later-time = later.later-time
 
 pub join-part-way : JoinPartWay
 join-part-way p bytes k room end h e = joins p bytes k room end h e
+
+pub seen-exact : SeenExact
+seen-exact ws = (four-seen ws, seen-four ws)
 
 pub whole-exact : WholeExact
 whole-exact bytes i =

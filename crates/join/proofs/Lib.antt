@@ -1,4 +1,5 @@
 -- Lemmas, and the laws proved (Kept).
+pub mod AllSeen
 pub mod Answers
 pub mod Behind
 pub mod Followed
@@ -11,3 +12,5 @@ pub mod PartWay
 pub mod Places
 pub mod Sample
 pub mod Stepped
+pub mod Told
+pub mod Types

@@ -15,6 +15,10 @@ not-both t e f = never (sym f ∙ e)
 pub and-both : (a b : Bool) → a ≡ true → b ≡ true → a && b ≡ true
 and-both a b e f = rw (e, f) refl
 
+pub or-either : {A : Type 0} (a b : Bool) → a || b ≡ true → (a ≡ true → A) → (b ≡ true → A) → A
+or-either true b e f g = f refl
+or-either false b e f g = g e
+
 pub or-first : (a b : Bool) → a || b ≡ false → a ≡ false
 or-first true b e = e
 or-first false b e = refl

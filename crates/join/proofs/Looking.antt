@@ -10,7 +10,6 @@ use Rattle.words.specs.declared.Next.{Next}
 use Rattle.words.specs.declared.Next.the-variants.{Word, Part, End}
 use Rattle.words.specs.Words.{Words, firstOf, wordsOf, nextAt}
 use Rattle.words.proofs.Cut.{end-found, part-found, word-found, word-within, part-next}
-use Rattle.evt3.specs.declared.kind.Kind.{Kind}
 use Rattle.evt3.specs.Words.{kindOf}
 use Rattle.join.specs.declared.seen.Seen.{Seen}
 use Rattle.join.specs.declared.whole.Whole.the-variants.{From, Never}
@@ -36,18 +35,17 @@ module _ {bytes : List ℕ} {seen : Seen} {at : ℕ} (h : Looking bytes seen at)
   pub at-part : Part ≡ nextAt 2 bytes at → Never ≡ wholeFrom bytes
   at-part e = sym (h .same ∙ ap (λ (ws : Words). wholeIn ws seen at) (part-found (wordsOf 2 (drop at bytes)) e))
 
-  -- a word w of kind k is next, with which s′ has been seen
+  -- a word w is next, with which s′ has been seen
   module _ {w : ℕ} (e : Word w ≡ nextAt 2 bytes at) where
     pub word-in : at + 2 ≤ length bytes
     word-in = word-within 2 (lit< tt) bytes at e
 
-    module _ {k : Kind} {s′ : Seen} (is : k ≡ kindOf w) (r : s′ ≡ seenWith k seen) where
+    module _ {s′ : Seen} (r : s′ ≡ seenWith (kindOf w) seen) where
       at-word : (t : Bool) → allSeen s′ ≡ t → wholeFrom bytes ≡ cond t (From (at + 2)) (wholeIn (wordsOf 2 (drop (at + 2) bytes)) s′ (at + 2))
       at-word t f =
-          let with-word : seenWith (kindOf w) seen ≡ s′ = ap (λ (j : Kind). seenWith j seen) (sym is) ∙ sym r in
           h .same
           ∙ ap (λ (ws : Words). wholeIn ws seen at) (word-found 2 (lit< tt) bytes at e)
-          ∙ ap (λ (s : Seen). cond (allSeen s) (From (at + 2)) (wholeIn (wordsOf 2 (drop (at + 2) bytes)) s (at + 2))) with-word
+          ∙ ap (λ (s : Seen). cond (allSeen s) (From (at + 2)) (wholeIn (wordsOf 2 (drop (at + 2) bytes)) s (at + 2))) (sym r)
           ∙ ap (λ (b : Bool). cond b (From (at + 2)) (wholeIn (wordsOf 2 (drop (at + 2) bytes)) s′ (at + 2))) f
 
       pub seen-all : allSeen s′ ≡ true → From (at + 2) ≡ wholeFrom bytes

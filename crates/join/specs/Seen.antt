@@ -1,6 +1,6 @@
 -- Which words have been seen, by their kinds alone, and the byte from which on none of their rows is missing. 02, R-10.
 use Prim.Native.Nat.{ℕ, _+_}
-use mathlib.Core.Bool.{Bool, true, false, cond, _&&_}
+use mathlib.Core.Bool.{Bool, true, false, cond, _&&_, _||_}
 use mathlib.Core.List.{List, [], _∷_}
 use lib.ListN.{take}
 use Rattle.words.specs.Words.{Words, word, whole, part, wordsOf}
@@ -20,7 +20,7 @@ noneSeen = record { high = false; low = false; y = false; base = false }
 -- with one word more, of a kind: TIME_HIGH, TIME_LOW, which counts after a TIME_HIGH, ADDR_Y, BASE_X
 abbrev pub seenWith : Kind → Seen → Seen
 seenWith TimeHigh seen = record { high = true; low = seen .low; y = seen .y; base = seen .base }
-seenWith TimeLow seen = record { high = seen .high; low = seen .high; y = seen .y; base = seen .base }
+seenWith TimeLow seen = record { high = seen .high; low = seen .high || seen .low; y = seen .y; base = seen .base }
 seenWith AddrY seen = record { high = seen .high; low = seen .low; y = true; base = seen .base }
 seenWith VectBaseX seen = record { high = seen .high; low = seen .low; y = seen .y; base = true }
 -- the others change nothing

@@ -1,7 +1,7 @@
 // Which words have been seen.
 ghost use mathlib.Core.Path.{_≡_};
+ghost use Rattle.evt3.specs.Words.{kindOf};
 ghost use Rattle.join.specs.Seen.{noneSeen, seenWith, allSeen};
-use evt3::Kind;
 
 // Which words have been seen, by their kinds alone.
 pub struct Seen {
@@ -25,28 +25,16 @@ impl Seen {
         }
     }
 
-    // With one word more.
-    pub(crate) fn with(mut self, kind: Kind) -> Seen
-        ensures { λ r. ⌜ r ≡ seenWith kind self ⌝ }
+    // With one word more. Each field is worked out whatever the word is: no branch for a processor to guess.
+    pub(crate) fn with(self, w: u64) -> Seen
+        ensures { λ r. ⌜ r ≡ seenWith (kindOf w) self ⌝ }
     {
-        match kind {
-            Kind::TimeHigh => {
-                self.high = true;
-                self
-            }
-            Kind::TimeLow => {
-                self.low = self.high;
-                self
-            }
-            Kind::AddrY => {
-                self.y = true;
-                self
-            }
-            Kind::VectBaseX => {
-                self.base = true;
-                self
-            }
-            _ => self,
+        let top = w / 4096 % 16;
+        Seen {
+            high: (top == 8) | self.high,
+            low: ((top == 6) & self.high) | self.low,
+            y: (top == 0) | self.y,
+            base: (top == 3) | self.base,
         }
     }
 

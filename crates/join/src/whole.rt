@@ -2,7 +2,6 @@
 ghost use mathlib.Core.Path.{_≡_};
 ghost use Rattle.join.specs.Seen.{wholeFrom, wholeNumbers};
 use crate::seen::Seen;
-use evt3::Kind;
 use words::Next;
 
 // The place after the word by which all four have been seen; or they never are.
@@ -49,9 +48,8 @@ pub fn whole_from(bytes: &[u8]) -> Whole
                 return Whole::Never;
             }
             Next::Word(w) => {
-                let kind = Kind::of(w);
                 let end = at + 2;
-                seen = seen.with(kind);
+                seen = seen.with(w);
                 if seen.all() {
                     return Whole::From(end);
                 }

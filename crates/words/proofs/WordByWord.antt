@@ -5,7 +5,7 @@ use Prim.Native.Nat.{ℕ, zero, suc, _+_, _-_, _*_, _≤_, _<_}
 use native.Mathlib.Omega.{arith}
 use native.Mathlib.Nat.{zero-mul, suc-mul}
 use mathlib.Core.Bool.{Bool, true, false, cond}
-use mathlib.Core.List.{List, [], _∷_, _++_, append-nil, flatten}
+use mathlib.Core.List.{List, _∷_, _++_, append-nil, flatten}
 use lib.ListN.{length, take, drop, length-drop}
 use lib.Seq.{drop-drop}
 use lib.Dec.{leb}
@@ -15,7 +15,7 @@ use Rattle.rows.specs.declared.row.Row.{Row}
 use Rattle.rows.specs.Runs.{Ending, finished, refused, Run, prepend, stopped, resume}
 use Rattle.rows.proofs.Sequence.{not-finished}
 use Rattle.words.specs.Words.{value, Words, word, whole, part, wordsOf}
-use Rattle.words.specs.Machine.{Outcome, next, fault, Machine, Reached, after, run, withWord, rowsByWord, closed, reading}
+use Rattle.words.specs.Machine.{Outcome, next, fault, Machine, Reached, after, run, rowsByWord, closed, reading}
 use Rattle.words.proofs.Cut.{words-one}
 
 module _ {S : Type 0} (m : Machine S) where

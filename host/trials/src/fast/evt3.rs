@@ -28,23 +28,16 @@ pub fn read(bytes: &[u8], width: u32, height: u32, rows: &mut [u32]) -> Result<u
     }
 }
 
-/// Does what `fryskelom::whole_evt3` does.
+/// Does what `fryskelom::whole_evt3` does, without a branch for any type of word.
 pub fn whole(bytes: &[u8]) -> Option<usize> {
-    const HIGH: u32 = 1;
-    const LOW: u32 = 2;
-    const LINE: u32 = 4;
-    const BASE: u32 = 8;
-    let mut seen = 0;
+    let [mut high, mut low, mut line, mut base] = [false; 4];
     for (index, &word) in bytes.as_chunks().0.iter().enumerate() {
-        seen |= match u16::from_le_bytes(word) >> 12 {
-            0x0 => LINE,
-            0x3 => BASE,
-            // a TIME_LOW counts after a TIME_HIGH
-            0x6 => (seen & HIGH) * LOW,
-            0x8 => HIGH,
-            _ => continue,
-        };
-        if seen == HIGH | LOW | LINE | BASE {
+        let kind = u16::from_le_bytes(word) >> 12;
+        low |= (kind == 0x6) & high;
+        high |= kind == 0x8;
+        line |= kind == 0x0;
+        base |= kind == 0x3;
+        if low & line & base {
             return Some(2 * index + 2);
         }
     }

@@ -43,7 +43,7 @@ abbrev All-place : Type 0
 All-place = tie.After-all Inv-loop μ-loop
 
 abbrev atWord : All-place → Word-place
-atWord d = d .before .before .before .before
+atWord d = d .before .before .before
 
 none-requires : tie.Need-none-requires Inv-loop μ-loop
 none-requires c κs = tt
@@ -84,12 +84,9 @@ returns-2 c =
 enum-known-next : tie.Need-enum-known-next Inv-loop μ-loop
 enum-known-next c = c .match .keys3
 
-of-requires : tie.Need-of-requires Inv-loop μ-loop
-of-requires c κs = tt
-
 add-end : tie.Need-add-end Inv-loop μ-loop
 add-end c =
-    let d : Word-place = c .before .before in
+    let d : Word-place = c .before in
     omega (arith, word-fits d, atLoop d .before .before .before .good)
 
 with-requires : tie.Need-with-requires Inv-loop μ-loop
@@ -101,7 +98,7 @@ all-requires c κs = tt
 returns-3 : tie.Need-returns-3 Inv-loop μ-loop
 returns-3 c =
     let d : All-place = c .before in
-    seen-all (atLoop (atWord d) .loop .inv) (word (atWord d)) (d .before .before .of .ensures) (d .before .with .ensures) (sym (d .all .ensures) ∙ c .if1 .taken)
+    seen-all (atLoop (atWord d) .loop .inv) (word (atWord d)) (d .before .with .ensures) (sym (d .all .ensures) ∙ c .if1 .taken)
 
 loop-less : tie.Need-loop-less Inv-loop μ-loop
 loop-less c = omega (arith, word-fits (atWord (c .before)))
@@ -109,7 +106,7 @@ loop-less c = omega (arith, word-fits (atWord (c .before)))
 loop-again : tie.Need-loop-again Inv-loop μ-loop
 loop-again c =
     let d : All-place = c .before in
-    looks-on (atLoop (atWord d) .loop .inv) (word (atWord d)) (d .before .before .of .ensures) (d .before .with .ensures) (sym (d .all .ensures) ∙ c .if1 .left)
+    looks-on (atLoop (atWord d) .loop .inv) (word (atWord d)) (d .before .with .ensures) (sym (d .all .ensures) ∙ c .if1 .left)
 
 pub whole-from-spec : {M : Type 1} → statement M
 whole-from-spec =
@@ -128,7 +125,6 @@ whole-from-spec =
     enum-told-2
     returns-2
     enum-known-next
-    of-requires
     add-end
     with-requires
     all-requires

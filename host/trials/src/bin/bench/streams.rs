@@ -31,7 +31,7 @@ pub const STREAMS: [Stream; 20] = [
     growing("EVT3, mixed", |events, rounds| reading_evt3(evt3::Scene::Mixed, events, rounds)),
     stream("EVT3, two cameras", |events, rounds| reading_evt3(evt3::Scene::TwoCameras, events, rounds)),
     growing("RAW of EVT3, mixed", reading_raw_evt3),
-    growing("EVT3, whole from nowhere on", looking_evt3),
+    growing("EVT3, sought to the end", looking_evt3),
     stream("EVT2, single pixels", |events, rounds| reading_evt2(evt2::Scene::Pixels, events, rounds)),
     growing("EVT2, mixed with IMU", |events, rounds| reading_evt2(evt2::Scene::Mixed, events, rounds)),
     stream("EVT2, mostly IMU", |events, rounds| reading_evt2(evt2::Scene::Motion, events, rounds)),

@@ -25,6 +25,17 @@ fn every_command_works() {
     }
 }
 
+/// What is said of the recording that is joined part way there.
+#[test]
+fn joined_part_way() {
+    let (_, section) = README.split_once("### Joining").expect("the section");
+    let line = section.lines().find_map(|line| line.strip_prefix("    ./fryskelom ")).expect("a command");
+    let printed = run(&in_repository("."), &line.split(' ').collect::<Vec<_>>()).good();
+    let (_, told) = printed.text().split_once("\njoined ").expect("what is missing");
+    let told: String = format!("joined {told}").split_inclusive('\n').take(2).collect();
+    assert!(section.contains(&format!("\n\n{}\n", shown(&told))), "{told}");
+}
+
 /// The fitter's question: how long after the coil's trigger did the armature move?
 #[test]
 fn the_question_and_its_answer() {

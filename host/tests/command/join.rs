@@ -67,7 +67,8 @@ fn every_word() {
 #[test]
 fn samples() {
     let folder = folder("join-samples");
-    for (name, format, data) in [("gate-relay-evt3.raw", "raw-evt3", 116), ("two-cameras-evt3.raw", "raw-evt3", 116), ("clock-wrap.evt3", "evt3", 0)] {
+    for (name, format, data) in [("gate-relay-evt3.raw", "raw-evt3", 116), ("two-cameras-evt3.raw", "raw-evt3", 116), ("clock-wrap.evt3", "evt3", 0)]
+    {
         let bytes = sample(name);
         for byte in (data..bytes.len()).step_by(1_234) {
             let arguments = ["rows", "recording", "--format", format, "--join", &byte.to_string()];
@@ -100,7 +101,10 @@ fn info() {
     let arguments = ["info", "recording", "--format", "raw-evt3", "--join", "836", "--kind", "pixel", "--bins", "1000"];
     let run = run_on(&folder, &sample("gate-relay-evt3.raw"), &arguments).good();
     assert!(run.text().contains("\nevents: ") && run.text().contains(" pass the filters\n") && run.text().contains("\nbins of 1000 µs"), "{run:?}");
-    assert!(run.text().contains("\nheader: the data begin at byte 116\n    % date ") && run.text().contains("\npicture width: 640 pixels\n"), "{run:?}");
+    assert!(
+        run.text().contains("\nheader: the data begin at byte 116\n    % date ") && run.text().contains("\npicture width: 640 pixels\n"),
+        "{run:?}"
+    );
 }
 
 /// Bytes at which no word of a RAW file begins, which its header alone can tell.
@@ -140,10 +144,19 @@ fn refused() {
     let stopped = "no event would be missing from byte 67 on, but the reading stopped before it; before it some may be";
     let run_57 = run(&file, "raw-evt3", "57");
     assert!(run_57.stderr.starts_with(&note(&format!("joined at byte 57: {stopped}"))), "{run_57:?}");
-    assert!(run_57.stderr.contains("\nrefused 3: a word of a reserved type\nat byte 63 of recording (counted from 0); 0 rows were finished"), "{run_57:?}");
+    assert!(
+        run_57.stderr.contains("\nrefused 3: a word of a reserved type\nat byte 63 of recording (counted from 0); 0 rows were finished"),
+        "{run_57:?}"
+    );
     let words: Vec<u16> = words.into_iter().enumerate().filter(|(index, _)| *index != 4).map(|(_, word)| word).collect();
     let run_57 = run(&inputs::raw("3.0", &evt3::bytes_of(&words)), "raw-evt3", "57");
     assert!(run_57.stderr.starts_with(&note(&joined(57, 65))) && run_57.stderr.contains("\nat byte 65 of recording"), "{run_57:?}");
+    // the picture is the header's, 640 by 480
+    for (line, pixel, outside) in [(479, 639, false), (480, 639, true), (479, 640, true)] {
+        let words = [0xe000, 0x8001, 0x6002, line, 0x2000 | pixel];
+        let run = run(&inputs::raw("3.0", &evt3::bytes_of(&words)), "raw-evt3", "57");
+        assert_eq!(run.stderr.contains("\nrefused 6: ") && run.stderr.contains("\nat byte 63 of recording"), outside, "{run:?}");
+    }
     // a header that is refused, of which no byte is a word's
     let comma = run(&sample("comma-in-width.raw"), "raw-evt3", "100");
     assert!(comma.status == Some(1) && comma.stderr.starts_with("refused 9: ") && comma.stderr.contains("at byte 37 "), "{comma:?}");

@@ -37,6 +37,9 @@ fn the_longest_input() {
     }
     within(&["rows", "recording", "--format", "evt2"]).failed(&message("recording"));
     within(&["rows", "recording", "--format", "raw-evt2"]).failed(&message("recording"));
+    // nor is any word of them joined
+    within(&["rows", "recording", "--format", "evt3", "--join", "8"]).failed(&message("recording"));
+    within(&["rows", "recording", "--format", "raw-evt3", "--join", "7"]).failed(&message("recording"));
     within(&["convert", "recording", "out", "--format", "evt2", "--to", "evt2"]).failed(&message("recording"));
     run_after(&folder, "ulimit -v 100000; exec < recording", &["rows", "-", "--format", "evt2"]).failed(&message("standard input"));
     // of which another program has read so much that the rest is not too long

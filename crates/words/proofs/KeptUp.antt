@@ -1,5 +1,5 @@
 -- A machine that keeps up with another finishes what the other finishes; how that is shown of a machine.
-use mathlib.Core.Path.{_≡_, refl, sym, _∙_, ap, subst}
+use mathlib.Core.Path.{_≡_, refl, sym, _∙_, ap, subst, subst₂}
 use Prim.Native.Nat.{ℕ, _+_, _-_, _≤_}
 use native.Mathlib.Omega.{arith}
 use mathlib.Core.Bool.{Bool, false}
@@ -37,7 +37,9 @@ module _ {S T : Type 0} {m : Machine S} {n : Machine T} {test : Row → Bool} {A
       let rest : Beside (run m ws (b .state) (place + m .size) left .rows) (r .state) (run n ws (to .state) (place + n .size) left′) =
       subst (λ (size : ℕ). Beside (run m ws (b .state) (place + m .size) left .rows) (r .state) (run n ws (to .state) (place + size) left′)) (sym (k .size))
       (run-beside ws (b .state) (to .state) (place + m .size) left left′ (to .holds) (omega (arith, fewer, h)) (b .rest)) in
-      rw (run-next m w ws place (b .step) room (b .fits), run-next n w ws place (to .step) room′ (omega (arith, fewer, b .fits, h)))
+      subst₂ (λ (x : Run (Reached S)) (y : Run (Reached T)). Beside (x .rows) (r .state) y)
+      (sym (run-next m w ws place (b .step) room (b .fits)))
+      (sym (run-next n w ws place (to .step) room′ (omega (arith, fewer, b .fits, h))))
       (record {
         reached = rest .reached;
         rows = ap (λ (rs : List Row). only test (b .new) ++ rs) (rest .rows) ∙ sym (only-append test (b .new) _);

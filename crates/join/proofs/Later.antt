@@ -1,12 +1,12 @@
 -- Rows n wraps later: their time, and what the words that give events give in two states whose times lie n wraps apart.
-use mathlib.Core.Path.{_≡_, refl, ap, ap₂}
-use Prim.Native.Nat.{ℕ, _+_, _*_, _/_, _%_}
-use native.Mathlib.Omega.{arith}
+use mathlib.Core.Path.{_≡_, refl, sym, _∙_, ap, ap₂}
+use Prim.Native.Nat.{ℕ, _+_, _*_}
 use mathlib.Core.Bool.{Bool, true, false, cond}
 use mathlib.Core.List.{List, [], _∷_, map}
 use Rattle.rows.specs.declared.fault.Fault.the-variants as refusal
 use Rattle.rows.specs.declared.row.Row.{Row}
 use Rattle.rows.specs.Row.{timeOf, timed}
+use Rattle.rows.proofs.GoodRows.{timed-time, timed-again}
 use Rattle.words.specs.declared.picture.Picture.{Picture}
 use Rattle.words.specs.Machine.{Given, gives, refuses}
 use Rattle.evt3.specs.declared.state.State.{State}
@@ -14,15 +14,15 @@ use Rattle.evt3.specs.Words.{rowsAt, allIn, pixels}
 use Rattle.join.specs.Join.{later}
 
 pub later-time : (n : ℕ) (r : Row) → timeOf (later n r) ≡ timeOf r + n * 16777216
-unfolding later timeOf
-later-time n r = omega arith
+unfolding later
+later-time n r = timed-time (r .kind) (timeOf r + n * 16777216) (r .a) (r .b) (r .c) (r .d) (r .e) (r .f) (r .g)
 
 -- a made row
 pub later-timed : (n kind time a b c d e f g : ℕ) → timed kind (time + n * 16777216) a b c d e f g ≡ later n (timed kind time a b c d e f g)
-unfolding later timeOf timed
+unfolding later
 later-timed n kind time a b c d e f g =
-    let whole : time ≡ time / 4294967296 * 4294967296 + time % 4294967296 = omega arith in
-    ap (λ (x : ℕ). timed kind (x + n * 16777216) a b c d e f g) whole
+    ap (λ (x : ℕ). timed kind (x + n * 16777216) a b c d e f g) (sym (timed-time kind time a b c d e f g))
+    ∙ sym (timed-again kind time (timeOf (timed kind time a b c d e f g) + n * 16777216) a b c d e f g)
 
 pixels-later : (n time y polarity camera : ℕ) (xs : List ℕ)
     → rowsAt (time + n * 16777216) y polarity camera xs ≡ map (later n) (rowsAt time y polarity camera xs)

@@ -1,12 +1,12 @@
 -- A reader that joins a recording part way, beside one that read it from its first word on. 02, R-10.
 use mathlib.Core.Path.{_≡_}
-use Prim.Native.Nat.{ℕ, _+_, _*_, _/_, _%_}
+use Prim.Native.Nat.{ℕ, _+_, _*_}
 use mathlib.Core.Bool.{Bool, true}
 use mathlib.Core.List.{List, [], map, flatten}
 use mathlib.Core.Logic.{_⊎_}
 use lib.ListN.{length, drop, getD}
 use Rattle.rows.specs.declared.row.Row.{Row}
-use Rattle.rows.specs.Row.{timeOf}
+use Rattle.rows.specs.Row.{timeOf, timed}
 use Rattle.rows.specs.Runs.{Finishes}
 use Rattle.words.specs.declared.picture.Picture.{Picture}
 use Rattle.words.specs.Words.{Words, wordsOf}
@@ -15,24 +15,9 @@ use Rattle.evt3.specs.State.{fresh}
 use Rattle.evt3.specs.Reader.{machine, readingOf}
 use Rattle.join.specs.Seen.{allSeenIn}
 
--- a row at another time, and a row n wraps of the clock later: a wrap is 2^24 microseconds
-abbrev pub atTime : ℕ → Row → Row
-atTime time r =
-    record {
-      kind = r .kind;
-      low = time % 4294967296;
-      high = time / 4294967296;
-      a = r .a;
-      b = r .b;
-      c = r .c;
-      d = r .d;
-      e = r .e;
-      f = r .f;
-      g = r .g;
-    }
-
+-- a row n wraps of the clock later, each of 2^24 microseconds; but for its time it is the same
 unfoldable pub later : ℕ → Row → Row
-later n r = atTime (timeOf r + n * 16777216) r
+later n r = timed (r .kind) (timeOf r + n * 16777216) (r .a) (r .b) (r .c) (r .d) (r .e) (r .f) (r .g)
 
 -- the rows of one word, as the joined reader gives them and as the full reader does: none, or the same in order, n wraps earlier; and where it
 -- is sure none is missing

@@ -140,6 +140,12 @@ pub timed-time : (kind time a b c d e f g : ℕ) → timeOf (timed kind time a b
 unfolding timeOf timed
 timed-time kind time a b c d e f g = omega arith
 
+-- and made again at another time it is the row of that time
+pub timed-again : (kind time at a b c d e f g : ℕ) → let r : Row = timed kind time a b c d e f g in
+    timed (r .kind) at (r .a) (r .b) (r .c) (r .d) (r .e) (r .f) (r .g) ≡ timed kind at a b c d e f g
+unfolding timed
+timed-again kind time at a b c d e f g = refl
+
 -- rows made within the limits are good
 module _ (time : ℕ) (h : time < 17179869184) where
   timed-timely : (kind a b c d e f g : ℕ) → timely (timed kind time a b c d e f g) ≡ true

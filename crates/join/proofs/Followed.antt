@@ -6,7 +6,7 @@ use Prim.Native.Nat.{ℕ, zero, suc, _+_, _-_, _≤_}
 use native.Mathlib.Omega.{arith}
 use mathlib.Core.Bool.{Bool, true, false}
 use mathlib.Core.List.{List, [], _∷_, map}
-use lib.ListN.{length, take, getD}
+use lib.ListN.{length, length-map, take, getD}
 use Rattle.rows.specs.declared.row.Row.{Row}
 use Rattle.rows.specs.Runs.{Run, finished}
 use Rattle.rows.proofs.Sequence.{not-finished}
@@ -47,13 +47,9 @@ agree-count (more a r) = ap suc (agree-count r)
 no-more : {n : ℕ} {sure : Bool} (joined full : List Row) → Agrees n sure joined full → length joined ≤ length full
 no-more {n} joined full a = go (a .given)
   where
-    same-length : (l : List Row) → length (map (later n) l) ≡ length l
-    same-length [] = refl
-    same-length (r ∷ l) = ap suc (same-length l)
-
     go : (joined ≡ []) ⊎ (full ≡ map (later n) joined) → length joined ≤ length full
     go (inl e) = omega (arith, ap length e)
-    go (inr e) = omega (arith, ap length e, same-length joined)
+    go (inr e) = omega (arith, ap length e, length-map joined (later n))
 
 -- a TIME_HIGH that was seen stays so
 unseen-before : (k : Kind) (seen : Seen) → seenWith k seen .high ≡ false → seen .high ≡ false

@@ -11,10 +11,11 @@ use Rattle.words.specs.declared.picture.Picture.{Picture}
 use Rattle.words.specs.declared.picture.Admission.{Admission}
 use Rattle.words.specs.declared.picture.Admission.the-variants.{Admitted}
 use Rattle.words.specs.Words.{wordsOf}
-use Rattle.words.specs.Machine.{Machine, Reached, run, rowsByWord, readFrom}
+use Rattle.words.specs.Machine.{Machine, Reached, run, rowsByWord, reading, readFrom}
 use Rattle.words.specs.Picture.{admissionOf, admitted}
 use Rattle.words.proofs.Admitted.{was-admitted, fewer-admitted}
-use Rattle.words.proofs.WordByWord.{FromWord, from-word, run-rows, Ran, reading-ran, ran-reading, ran-rows}
+use Rattle.words.proofs.Kept.{rows-of-words}
+use Rattle.words.proofs.WordByWord.{FromWord, from-word, reading-ran, ran-reading}
 use Rattle.evt3.specs.declared.state.State.{State}
 use Rattle.evt3.specs.State.{fresh}
 use Rattle.evt3.specs.Reader.{machine, readingOf}
@@ -31,12 +32,12 @@ module _ (p : Picture) where
   reads : (bytes : List ℕ) (room : ℕ) (end : Reached State) → admissionOf (length bytes) p ≡ Admitted
       → run m (wordsOf 2 bytes) fresh 0 room .ending ≡ finished end → Finishes (readingOf p bytes room) (flatten (fullRows p bytes))
   reads bytes room end a e =
-      let ran : Ran m (wordsOf 2 bytes) fresh 0 room end = record { ending = e; none = refl } in
+      let finishes : reading m (wordsOf 2 bytes) fresh 0 room .ending ≡ finished end = ran-reading m (wordsOf 2 bytes) fresh 0 room (record { ending = e; none = refl }) in
       rw a
       (record {
         state = end;
-        rows = ran-rows m (wordsOf 2 bytes) fresh 0 room ran ∙ run-rows m (wordsOf 2 bytes) fresh 0 room e;
-        ending = ran-reading m (wordsOf 2 bytes) fresh 0 room ran;
+        rows = rows-of-words State m (wordsOf 2 bytes) fresh 0 room end finishes;
+        ending = finishes;
       })
 
   pub joins : (bytes : List ℕ) (k room : ℕ) (end : Reached State) → k * 2 ≤ length bytes → readingOf p bytes room .ending ≡ finished end

@@ -43,6 +43,6 @@ pub record Joins (p : Picture) (bytes : List ℕ) (k room : ℕ) : Type 0 where
   pub full : readingOf p bytes room .rows ≡ flatten (fullRows p bytes)
   pub count : length (fullRows p bytes) ≡ k + length (joinedRows p bytes k)
   -- its word i is the full reader's word k + i, and one number of wraps lies between the times of their rows, at every word; no row is missing
-  -- of a word before which a TIME_HIGH, a later TIME_LOW, an ADDR_Y and a BASE_X were seen
+  -- of a word before which a TIME_HIGH, a later TIME_LOW, an ADDR_Y and a VECT_BASE_X were seen
   pub wraps : ℕ
   pub agrees : (i : ℕ) → Agrees wraps (allSeenIn (wordsFrom bytes k) i) (getD (joinedRows p bytes k) i []) (getD (fullRows p bytes) (k + i) [])

@@ -17,7 +17,7 @@ use Rattle.join.specs.declared.whole.WholeNumbers.{WholeNumbers}
 abbrev pub noneSeen : Seen
 noneSeen = record { high = false; low = false; y = false; base = false }
 
--- with one word more, of a kind: TIME_HIGH, TIME_LOW, which counts after a TIME_HIGH, ADDR_Y, BASE_X
+-- with one word more, of a kind: TIME_HIGH, TIME_LOW, which counts after a TIME_HIGH, ADDR_Y, VECT_BASE_X
 abbrev pub seenWith : Kind → Seen → Seen
 seenWith TimeHigh seen = record { high = true; low = seen .low; y = seen .y; base = seen .base }
 seenWith TimeLow seen = record { high = seen .high; low = seen .high || seen .low; y = seen .y; base = seen .base }

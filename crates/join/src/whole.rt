@@ -4,7 +4,7 @@ ghost use Rattle.join.specs.Seen.{wholeFrom, wholeNumbers};
 use crate::seen::Seen;
 use words::Next;
 
-// The place after the word by which all four have been seen; or they never are.
+// The place after the word by which a TIME_HIGH, a later TIME_LOW, an ADDR_Y and a VECT_BASE_X have all been seen; or they never all are.
 pub enum Whole {
     From(usize),
     Never,

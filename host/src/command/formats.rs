@@ -29,14 +29,14 @@ pub struct Format {
     /// As many rows as there is room for at first.
     pub first_rows: fn(usize) -> usize,
     /// How its words are read from one of them on, where that is possible.
-    pub joined: Option<Joined>,
+    pub part_way: Option<PartWay>,
     /// How it is written, where it is.
     words: Option<Words>,
 }
 
 /// Words that can be read from any of them on.
 #[derive(Clone, Copy)]
-pub struct Joined {
+pub struct PartWay {
     /// The library's reading of the words from there on.
     pub read: Read,
     /// From which of their bytes on it misses no row.
@@ -86,7 +86,7 @@ const RAW: &str = "a RAW file of such words";
 const TOLD: &str = "a DAT file, an AEDAT 3.1 file";
 
 const EVT3: Read = |bytes, asked, rows| read_evt3(bytes, side(asked.width), side(asked.height), rows);
-const EVT3_JOINED: Joined = Joined { read: EVT3, whole: whole_evt3 };
+const EVT3_PART_WAY: PartWay = PartWay { read: EVT3, whole: whole_evt3 };
 
 /// An EVT3 word can give twelve rows, but on the whole there is seldom more than one a word: room for more is asked for when it is needed.
 pub const FORMATS: &[Format] = &[
@@ -101,7 +101,7 @@ pub const FORMATS: &[Format] = &[
         wrap: None,
         most_rows: most_rows_evt2,
         first_rows: most_rows_evt2,
-        joined: None,
+        part_way: None,
         words: Some(Words {
             holds: "pixels of camera 0 alone, below 2048 by 2048, triggers of channels 0 to 31, IMU counts",
             size: 4,
@@ -120,7 +120,7 @@ pub const FORMATS: &[Format] = &[
         wrap: Some(EVT3_WRAP),
         most_rows: most_rows_evt3,
         first_rows: |bytes| bytes / 2,
-        joined: Some(EVT3_JOINED),
+        part_way: Some(EVT3_PART_WAY),
         words: Some(Words {
             holds: "pixels of cameras 0 and 1, below 2048 by 2048, triggers of channels 0 to 15",
             size: 2,
@@ -139,7 +139,7 @@ pub const FORMATS: &[Format] = &[
         wrap: None,
         most_rows: most_rows_evt2,
         first_rows: most_rows_evt2,
-        joined: None,
+        part_way: None,
         words: None,
     },
     Format {
@@ -153,7 +153,7 @@ pub const FORMATS: &[Format] = &[
         wrap: Some(EVT3_WRAP),
         most_rows: most_rows_evt3,
         first_rows: |bytes| bytes / 2,
-        joined: Some(EVT3_JOINED),
+        part_way: Some(EVT3_PART_WAY),
         words: None,
     },
     Format {
@@ -167,7 +167,7 @@ pub const FORMATS: &[Format] = &[
         wrap: None,
         most_rows: most_rows_dat,
         first_rows: most_rows_dat,
-        joined: None,
+        part_way: None,
         words: None,
     },
     Format {
@@ -181,7 +181,7 @@ pub const FORMATS: &[Format] = &[
         wrap: None,
         most_rows: most_rows_aedat,
         first_rows: most_rows_aedat,
-        joined: None,
+        part_way: None,
         words: None,
     },
 ];
@@ -215,8 +215,8 @@ pub fn bare() -> impl Iterator<Item = &'static str> {
 }
 
 /// The names of the formats whose words can be read from any of them on.
-pub fn joined() -> impl Iterator<Item = &'static str> {
-    FORMATS.iter().filter(|format| format.joined.is_some()).map(|format| format.name)
+pub fn joinable() -> impl Iterator<Item = &'static str> {
+    FORMATS.iter().filter(|format| format.part_way.is_some()).map(|format| format.name)
 }
 
 /// The names of the words that RAW files hold.

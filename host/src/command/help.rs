@@ -1,5 +1,5 @@
 //! The help texts, in lines of at most 80 columns. What they say of the formats is taken from the table.
-use super::formats::{bare, capitals, joined, listed, names_written, suffixes, written, Format, FORMATS};
+use super::formats::{bare, capitals, joinable, listed, names_written, suffixes, written, Format, FORMATS};
 use super::names::called;
 use super::{columns, selection};
 
@@ -133,7 +133,7 @@ fn filters() -> String {
 
 /// The option that begins part way.
 fn join() -> String {
-    let from = format!("begin at this byte of the file, at which a word has to begin; for {} only.", listed(joined(), "", "and"));
+    let from = format!("begin at this byte of the file, at which a word has to begin; for {} only.", listed(joinable(), "", "and"));
     let told = "It is said from which byte on no event is missing. Times are then right up to a multiple of 16777216 microseconds, the same for all events. Bytes are \
                 counted from 0 at the start of the file, as in every message.";
     option("--join BYTE", &format!("{from} {told}"))

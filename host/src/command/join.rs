@@ -1,5 +1,5 @@
 //! `--join`: a recording read from one of its words on, by a reader that knows nothing of those before it.
-use super::formats::{joined, listed, Asked, Format, Head, Joined};
+use super::formats::{joinable, listed, Asked, Format, Head, PartWay};
 use super::options::{Given, Opt};
 use super::recording::{seconds, Recording, Stop};
 use fryskelom::{read_header, EVT3_WRAP};
@@ -11,7 +11,7 @@ pub const OPTIONS: &[Opt] = &[Opt { name: "--join", values: &["BYTE"] }];
 pub struct Join {
     pub byte: usize,
     /// How the words are read from there on, and the picture.
-    pub words: Joined,
+    pub words: PartWay,
     pub asked: Asked,
     /// From which byte on no event is missing, if there is one.
     whole: Option<usize>,
@@ -20,8 +20,8 @@ pub struct Join {
 /// The byte that was asked for.
 pub fn given(given: &Given, format: &Format) -> Result<Option<u64>, String> {
     let Some(byte) = given.number("--join")? else { return Ok(None) };
-    if format.joined.is_none() {
-        return Err(format!("--join goes with {} alone: other recordings can be read from their start only", listed(joined(), "--format ", "and")));
+    if format.part_way.is_none() {
+        return Err(format!("--join goes with {} alone: other recordings can be read from their start only", listed(joinable(), "--format ", "and")));
     }
     // where the words of a file with a header begin is not known before it is read
     if format.head == Head::None {
@@ -55,7 +55,7 @@ impl Join {
             return Err(format!("--join {byte}: {} has only {} bytes", recording.name, bytes.len()));
         };
         is_word(byte, first as u64)?;
-        let (byte, words) = (byte as usize, format.joined.expect("it was asked when the arguments were looked at"));
+        let (byte, words) = (byte as usize, format.part_way.expect("it was asked when the arguments were looked at"));
         Ok(Some(Join { byte, words, asked, whole: (words.whole)(rest).map(|whole| byte + whole) }))
     }
 

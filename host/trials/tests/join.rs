@@ -208,7 +208,7 @@ fn every_word_of_words_at_random() {
     reached.check();
 }
 
-/// A clock that wraps as often as it may, joined around each wrap.
+/// A clock that wraps as often as it may, joined at its first words and at its last.
 #[test]
 fn all_wraps() {
     let mut reached = Reached::default();

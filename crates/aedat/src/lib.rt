@@ -13,6 +13,8 @@
 //
 // specs/Lines.antt says what the lines are, specs/Packets.antt what a packet's header says and a packet gives, specs/Events.antt what an event
 // does, specs/Specials.antt what the special types mean, specs/Reader.antt what any bytes give.
+#![tactic(auto)]
+
 mod event;
 mod events;
 mod lines;

@@ -1,6 +1,8 @@
 // Holds the library to the cases of a table: the file stdin beside src/, one case a line, whose head says how a case is written. Of a case that
 // does not hold a line says what came back; the last line has the numbers of cases and of those that do not hold. The last cases of
 // the table state what is wrong, to show that this is seen; the file stdout has their lines. No answer is taken from a run.
+#![tactic(auto)]
+
 ghost use Rattle.std.specs.Prelude.{◌≡◌, length};
 
 use libc::{STDIN_FILENO, STDOUT_FILENO};

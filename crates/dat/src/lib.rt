@@ -10,6 +10,8 @@
 //
 // An event is a word of eight bytes: the machine of crate `words` reads it. specs/Words.antt says what a word does, specs/Reader.antt
 // what any bytes give.
+#![tactic(auto)]
+
 mod reader;
 mod state;
 

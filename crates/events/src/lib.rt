@@ -6,6 +6,8 @@
 //
 // No format needs them: readers and writers speak of rows alone, and `rows` has the rules that make a row good. Each function's contract is
 // an equation with a definition of specs/; specs/Promises.antt has the laws, among them that a reading is exact, or rounded once.
+#![tactic(auto)]
+
 mod event;
 mod readings;
 

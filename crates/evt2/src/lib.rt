@@ -15,6 +15,8 @@
 // The reader's state is a struct by value: for each kind of word that changes it, a method takes the word and hands back the
 // next state. specs/Words.antt says what each word does, specs/Reader.antt what any bytes give, specs/Spelling.antt what any
 // list of rows is written as.
+#![tactic(auto)]
+
 mod given;
 mod kind;
 mod reader;

@@ -16,6 +16,8 @@
 // next state. specs/Words.antt says what each word does, specs/Reader.antt what any bytes give, specs/Spelling.antt what any list of rows
 // is written as. The writer holds what it has told and the pixels of a row group that are not written yet, and writes those when it is
 // known how: as one pixel, as a base and a vector, or as a vector from the last base on.
+#![tactic(auto)]
+
 mod given;
 mod kind;
 mod length;

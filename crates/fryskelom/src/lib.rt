@@ -2,6 +2,8 @@
 //
 // include/fryskelom.h declares what stands here, under the names that C callers use. A slice passes as a pointer and a
 // length; the pointer is never null, and buffers do not overlap.
+#![tactic(auto)]
+
 ghost use Rattle.std.specs.Prelude.{◌≡◌};
 ghost use Rattle.events.specs.Event.{event_numbers};
 ghost use Rattle.rows.specs.Row.{room_of};

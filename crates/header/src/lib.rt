@@ -13,6 +13,8 @@
 //
 // specs/Lines.antt says where a line ends, specs/Texts.antt when two texts are the same, specs/Sides.antt what a line says of the
 // picture, specs/Header.antt what any bytes give.
+#![tactic(auto)]
+
 mod line;
 mod number;
 mod reader;

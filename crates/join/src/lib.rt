@@ -6,6 +6,8 @@
 // refusal and every word of it, is the law JoinPartWay of specs/Promises.antt: the reader that joined is never refused, and each of its words gives no
 // row, or those that the full reader gave of it, with one and the same multiple of 2^24 between the times. Once it has seen a TIME_HIGH, a later
 // TIME_LOW, an ADDR_Y and a VECT_BASE_X, every word gives them all: `whole_from` says where that is, and the law NoneMissing that it is so.
+#![tactic(auto)]
+
 mod seen;
 mod whole;
 

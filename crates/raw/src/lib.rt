@@ -8,6 +8,8 @@
 // first byte, the header included. The rows finished before the fault are in the slice, and nothing past them is touched.
 //
 // specs/Reader.antt says what any bytes give.
+#![tactic(auto)]
+
 mod reader;
 
 pub use reader::{Format, read};

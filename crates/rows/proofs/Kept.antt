@@ -9,7 +9,7 @@ use Rattle.rows.specs.Runs.{Ending, finished, refused, resume, and_then}
 use Rattle.rows.specs.Promises.{RowsOfFlat, FlatOfRows, OverKept, SevenUnused, KindsNamed, FiveRefused, CameraRefused, GoodTimely, MadeGood, GoodIsMade, VerdictWritable, VerdictAll, AndThenGrouped}
 use Rattle.rows.proofs.GoodRows.{kind_named, named_kind, five_bad, camera_bad, timed_time, camera_good, trigger_good, counts_good, singles_good, special_good}
 use Rattle.rows.proofs.GoodRows as rules
-use Rattle.rows.proofs.Judged.{accepted_writable, writable_accepted, accepted_all, all_accepted}
+use Rattle.rows.proofs.Judging.{accepted_writable, writable_accepted, accepted_all, all_accepted}
 use Rattle.rows.proofs.Lists as lists
 use Rattle.rows.proofs.MadeRows.{good_made}
 use Rattle.rows.proofs.Sequence.{prepend_then}

@@ -19,7 +19,7 @@ use Rattle.rows.specs.Fault.{writing_numbers}
 use Rattle.rows.specs.Row.{rows_of}
 use Rattle.rows.specs.Rules.{Verdict, accepted, refused, verdict_by, good_length, verdict_on}
 use Rattle.rows.specs.Writers.{verdict_in, writing_of, WroteBytes, WroteBytesNumbers}
-use Rattle.rows.proofs.Judged.{bad_list, good_list}
+use Rattle.rows.proofs.Judging.{bad_list, good_list}
 use Rattle.rows.proofs.Stored.{sets_over}
 
 -- what an answer of `writing_of` says of the verdict

@@ -3,7 +3,7 @@ ghost use Rattle.std.specs.Prelude.{◌≡◌};
 ghost use Rattle.rows.specs.Fault.{number_of, reading_numbers, writing_numbers};
 
 // Why an input is refused: one case for each number of the table, in its order. 7 was the bit of a slave camera, and is never used again.
-#[derive(Drop)]
+#[derive(Clone, Copy)]
 pub enum Fault {
     // 1: the input is longer than 1,073,741,824 bytes.
     TooLong,
@@ -36,7 +36,7 @@ pub enum Fault {
 }
 
 // What a reader answers. The rows are those finished before the fault, the place a byte of the input.
-#[derive(Drop)]
+#[derive(Clone, Copy)]
 pub enum Reading {
     Finished {
         rows: usize,
@@ -49,7 +49,7 @@ pub enum Reading {
 }
 
 // What a writer answers: the words or bytes written, or the index of the first bad row.
-#[derive(Drop)]
+#[derive(Clone, Copy)]
 pub enum Writing {
     Written { count: usize },
     Refused { fault: Fault, row: usize },
@@ -57,7 +57,7 @@ pub enum Writing {
 
 // A reader's answer as three numbers: refusal 0 and place 0 where it finished.
 #[repr(C)]
-#[derive(Drop)]
+#[derive(Clone, Copy)]
 pub struct ReadingNumbers {
     pub refusal: u64,
     pub rows: u64,
@@ -66,7 +66,7 @@ pub struct ReadingNumbers {
 
 // A writer's answer as two numbers: refusal 0 and the words or bytes written, or the refusal and the row's index.
 #[repr(C)]
-#[derive(Drop)]
+#[derive(Clone, Copy)]
 pub struct WritingNumbers {
     pub refusal: u64,
     pub count: u64,

@@ -10,6 +10,8 @@
 //     Reading, Writing, Fault             what a reader and a writer answer, with the number of each refusal
 //
 // Each function's contract is an equation with a definition of specs/; specs/Promises.antt has the laws.
+#![tactic(auto)]
+
 mod fault;
 mod row;
 mod rules;

@@ -4,7 +4,7 @@ ghost use Rattle.std.proofs.lemmas.List.Edits.{sets};
 ghost use Rattle.rows.specs.Row.{time_of, room_of, row_at, PutRow, timed, camera_row, pixel_row, trigger_row, counts_row, singles_row, special_row};
 
 // A row: its kind, its time mod 2^32 and div 2^32, and seven numbers of the kind's own, unused ones 0.
-#[derive(Drop)]
+#[derive(Clone, Copy)]
 pub struct Row {
     pub kind: u32,
     pub low: u32,
@@ -19,7 +19,7 @@ pub struct Row {
 }
 
 // What stands at an index of a list of rows.
-#[derive(Drop)]
+#[derive(Clone, Copy)]
 pub enum RowAt {
     Found(Row),
     Nothing,

@@ -6,7 +6,7 @@ use crate::fault::Fault;
 use crate::row::Row;
 
 // The kinds of rows, 1 to 4 and 6, and every other number. 5 was the USB packet, and is never used again.
-#[derive(Drop)]
+#[derive(Clone, Copy)]
 pub enum Kind {
     Pixel,
     Trigger,
@@ -17,7 +17,7 @@ pub enum Kind {
 }
 
 // What one row of a list to be written gets: its time, which the next row's must reach, or a refusal.
-#[derive(Drop)]
+#[derive(Clone, Copy)]
 pub enum Judged {
     Time(u64),
     Refused(Fault),

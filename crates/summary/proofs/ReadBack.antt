@@ -11,7 +11,7 @@ use Rattle.rows.specs.declared.row.Row.{Row}
 use Rattle.rows.specs.Row.{room_of, rows_of}
 use Rattle.rows.specs.Rules.{AllGood, good_row, in_any_order, accepted}
 use Rattle.rows.specs.Writers.{writing_of, written_over}
-use Rattle.rows.proofs.Judged.{few_rows, accepted_rows}
+use Rattle.rows.proofs.Judging.{few_rows, accepted_rows}
 use Rattle.rows.proofs.Kept.{over_kept, verdict_all}
 use Rattle.rows.proofs.Lists.{rows_of_length}
 use Rattle.rows.proofs.Writers.{room_long}

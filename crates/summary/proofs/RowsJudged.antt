@@ -11,7 +11,7 @@ use Rattle.rows.specs.declared.row.Row.{Row}
 use Rattle.rows.specs.Row.{time_of, room_of, row_from, rows_of}
 use Rattle.rows.specs.Rules.{good_row, Verdict, in_any_order, verdict_by}
 use Rattle.rows.specs.Writers.{writing_of}
-use Rattle.rows.proofs.Judged.{Judging, judging_start, judging_done, judging_next, judging_refused}
+use Rattle.rows.proofs.Judging.{Judging, judging_start, judging_done, judging_next, judging_refused}
 use Rattle.rows.proofs.Lists.{rows_of_length}
 use Rattle.summary.specs.Blocks.{block_count}
 use Rattle.summary.specs.Stored.{stored_of}

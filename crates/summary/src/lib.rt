@@ -5,6 +5,8 @@
 //     block_count(rows)     how many blocks so many rows make
 //
 // specs/Blocks.antt says what is kept of a list, specs/Stored.antt which bytes that is, and specs/Fields.antt what any bytes hold.
+#![tactic(auto)]
+
 ghost use Rattle.std.specs.Prelude.{◌≡◌, min};
 ghost use Rattle.summary.specs.Blocks.{block_count};
 

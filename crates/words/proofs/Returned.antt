@@ -8,7 +8,7 @@ use Rattle.rows.specs.declared.row.Row.{Row}
 use Rattle.rows.specs.Row.{flat, over, room_of, rows_of}
 use Rattle.rows.specs.Rules.{accepted, verdict_of}
 use Rattle.rows.specs.Runs.{Ending, Run, answer_of, Finishes}
-use Rattle.rows.proofs.Judged.{whole_rows, accepted_list}
+use Rattle.rows.proofs.Judging.{whole_rows, accepted_list}
 use Rattle.rows.proofs.Kept.{flat_of_rows, over_kept}
 use Rattle.rows.proofs.Lists.{rows_of_length}
 use Rattle.words.specs.RoundTrip.{ReadsBack, ComesBack}

@@ -10,7 +10,7 @@ use Rattle.rows.specs.declared.row.Row.{Row}
 use Rattle.rows.specs.declared.rules.Judged.TheVariants.{Time, Refused}
 use Rattle.rows.specs.Row.{room_of, row_from, rows_of}
 use Rattle.rows.specs.Rules.{accepted, refused, judged_of, in_order, verdict_from}
-use Rattle.rows.proofs.Judged.{Judging, judging_start, judging_done, judging_next, judging_refused}
+use Rattle.rows.proofs.Judging.{Judging, judging_start, judging_done, judging_next, judging_refused}
 use Rattle.rows.proofs.Lists.{rest, rest_none, rest_more, rest_all}
 use Rattle.words.specs.Writer.{PutWords}
 use Rattle.words.proofs.Writes.{Writes, writes_start, writes_length, writes_fit, writes_more}

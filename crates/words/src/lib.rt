@@ -11,6 +11,8 @@
 //     Picture, Gave                        the picture that pixels lie in; what a word did to the lent rows
 //
 // Bit fields are written with / and % in code, and as `field` in specs/Fields.antt, whose laws hold for every position and width.
+#![tactic(auto)]
+
 ghost use Rattle.std.specs.Prelude.{◌≡◌, [], ◌∷◌};
 ghost use Rattle.words.specs.Machine.{gives};
 ghost use Rattle.words.specs.Words.{value, first_of, words_of};

@@ -8,7 +8,7 @@ use lib.ListN.{length}
 use borrow.Author.Rules.{rules}
 use Rattle.rows.specs.Row.{rows_of}
 use Rattle.rows.specs.Rules.{good_row, in_any_order, good_length}
-use Rattle.rows.proofs.Judged.{few_rows}
+use Rattle.rows.proofs.Judging.{few_rows}
 use Rattle.rows.proofs.Writers.{wrote_bad_list, wrote_refused, count_same, wrote_full, wrote_all}
 use Rattle.summary.specs.Stored.{stored_of}
 use Rattle.summary.proofs.RowsJudged.{stored_bytes}

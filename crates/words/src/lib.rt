@@ -25,7 +25,7 @@ mod picture;
 pub use picture::{Admission, Picture, admit};
 
 // What stands in a stream of bytes: a word, a part of one before the end, or the end.
-#[derive(Drop)]
+#[derive(Clone, Copy)]
 pub enum Next {
     Word(u64),
     Part,
@@ -34,7 +34,7 @@ pub enum Next {
 
 // What a word did to the lent rows: so many are finished now, or there is no room for its own, or it is refused. None of its
 // own are written but in the first case.
-#[derive(Drop)]
+#[derive(Clone, Copy)]
 pub enum Gave {
     Rows(usize),
     Full,

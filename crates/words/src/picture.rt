@@ -5,14 +5,14 @@ ghost use Rattle.words.specs.Picture.{good_picture, in_picture, admission_of};
 use rows::Fault;
 
 // The columns and lines that pixels may lie in.
-#[derive(Drop)]
+#[derive(Clone, Copy)]
 pub struct Picture {
     pub width: u32,
     pub height: u32,
 }
 
 // What a reader of words answers before the first word: it reads on, or refuses at place 0 without rows.
-#[derive(Drop)]
+#[derive(Clone, Copy)]
 pub enum Admission {
     Admitted,
     Refused(Fault),

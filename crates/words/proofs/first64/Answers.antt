@@ -1,0 +1,14 @@
+-- `words::first64` meets its contract.
+use Rattle.words.proofs.Cut.{first_end, first_part, first_word}
+use lib.Dec.{lit<}
+use native.Mathlib.Omega.{arith}
+use Rattle.words.proofs.first64.Goals as goal
+
+pub returns-then-bytes-ge8 : goal.returns-then-bytes-ge8
+returns-then-bytes-ge8 c = first_word 8 (lit< tt) c.args.bytes.now (omega arith) c.word64.ensures
+
+pub returns-then-bytes-eq0 : goal.returns-then-bytes-eq0
+returns-then-bytes-eq0 c = first_end 8 (lit< tt) c.args.bytes.now c.if-bytes-eq0.true
+
+pub returns : goal.returns
+returns c = first_part 8 (lit< tt) c.args.bytes.now (omega arith) (omega arith)

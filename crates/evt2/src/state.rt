@@ -6,7 +6,7 @@ ghost use Rattle.evt2.specs.Words.{kind_in, time_at, goes_back, imu_begun};
 use crate::kind::Kind;
 
 // What a reader knows between words. The order leaves no gaps between the fields: gaps would be copied with the state.
-#[derive(Drop)]
+#[derive(Clone, Copy)]
 pub struct State {
     // Where the IMU reading in hand begins, and its words so far: the last is e, the one before it d.
     pub place: usize,

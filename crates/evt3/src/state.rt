@@ -4,7 +4,7 @@ ghost use Rattle.evt3.specs.State.{fresh, with_high, with_y, with_base, moved};
 ghost use Rattle.evt3.specs.Words.{drop_to, is_wrap, wraps_at, goes_back, bad_high, with_low};
 
 // Which parts of the state are known.
-#[derive(Drop)]
+#[derive(Clone, Copy)]
 pub struct Known {
     pub high: bool,
     pub time: bool,
@@ -13,7 +13,7 @@ pub struct Known {
 }
 
 // What a reader knows between words. The order leaves no gaps between the fields: gaps would be copied with the state.
-#[derive(Drop)]
+#[derive(Clone, Copy)]
 pub struct State {
     // Microseconds.
     pub time: u64,

@@ -18,7 +18,7 @@ pub use writer::write;
 
 // What is kept of a block of rows: four times in microseconds, and the number of rows of each kind, 1 to 6. No good row is a
 // packet any more.
-#[derive(Drop)]
+#[derive(Clone, Copy)]
 pub struct Block {
     pub first: u64,
     pub last: u64,

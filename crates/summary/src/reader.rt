@@ -10,7 +10,7 @@ use rows::Fault;
 use words::{word16, word32, word64};
 
 // The row count of a stored summary, or a refusal.
-#[derive(Drop)]
+#[derive(Clone, Copy)]
 pub enum Answer {
     Rows(usize),
     Refused(Fault),
@@ -18,7 +18,7 @@ pub enum Answer {
 
 // The answer as two numbers: refusal 0 and the row count, or the refusal and 0.
 #[repr(C)]
-#[derive(Drop)]
+#[derive(Clone, Copy)]
 pub struct SummaryNumbers {
     pub refusal: u64,
     pub rows: u64,
@@ -26,7 +26,7 @@ pub struct SummaryNumbers {
 
 // What stands at the front of bytes: a field of the row count, a field of a block, a field of another tag with so many bytes of
 // contents; or a field that is cut or has a wrong length.
-#[derive(Drop)]
+#[derive(Clone, Copy)]
 pub enum Front {
     Count,
     Block,
@@ -35,14 +35,14 @@ pub enum Front {
 }
 
 // The row count and the place after its field, or a fault before it.
-#[derive(Drop)]
+#[derive(Clone, Copy)]
 pub enum Counted {
     Found { rows: usize, next: usize },
     Faulty,
 }
 
 // How many blocks there are, or a fault.
-#[derive(Drop)]
+#[derive(Clone, Copy)]
 pub enum Walked {
     Blocks(usize),
     Faulty,

@@ -3,7 +3,7 @@ ghost use Rattle.std.specs.Prelude.{◌≡◌};
 ghost use Rattle.header.specs.Lines.{is_line, line_end};
 
 // Where a line's newline stands, counted from its first byte; or the input ends before it; or it is too far away.
-#[derive(Drop)]
+#[derive(Clone, Copy)]
 pub enum Line {
     Ends(usize),
     Cut,

@@ -7,7 +7,7 @@ use crate::side::{Judged, Sides, or_limit};
 use rows::Fault;
 
 // Where the data begin and the picture's sides; or the refusal, at the first byte of the line at fault.
-#[derive(Drop)]
+#[derive(Clone, Copy)]
 pub enum Header {
     Data { at: usize, width: u32, height: u32 },
     Refused { fault: Fault, place: usize },
@@ -15,7 +15,7 @@ pub enum Header {
 
 // The answer as four numbers: refusal 0 and where the data begin, or the refusal, its place and no sides.
 #[repr(C)]
-#[derive(Drop)]
+#[derive(Clone, Copy)]
 pub struct HeaderNumbers {
     pub refusal: u64,
     pub place: u64,
@@ -24,7 +24,7 @@ pub struct HeaderNumbers {
 }
 
 // What stands at the front: no line, a line that is refused, or a good one of some length.
-#[derive(Drop)]
+#[derive(Clone, Copy)]
 pub(crate) enum Step {
     Over,
     Stop(Fault),

@@ -5,7 +5,7 @@ ghost use Rattle.header.specs.Sides.{keyword_length, lower, named, side_of, may_
 use crate::value::{Value, value_of};
 
 // What a keyword names.
-#[derive(Drop)]
+#[derive(Clone, Copy)]
 pub(crate) enum Side {
     Width,
     Height,
@@ -13,14 +13,14 @@ pub(crate) enum Side {
 }
 
 // What lines have said of the picture so far: 0 where none has, as no line may say 0.
-#[derive(Drop)]
+#[derive(Clone, Copy)]
 pub(crate) struct Sides {
     pub width: u32,
     pub height: u32,
 }
 
 // What is known after a line, or that the line is bad.
-#[derive(Drop)]
+#[derive(Clone, Copy)]
 pub(crate) enum Judged {
     Good(Sides),
     Bad,

@@ -5,7 +5,7 @@ ghost use Rattle.header.specs.Sides.{number_of, spaced, value_of};
 use crate::number::number_of_few;
 
 // A whole number, or something else.
-#[derive(Drop)]
+#[derive(Clone, Copy)]
 pub(crate) enum Value {
     Number(u32),
     Malformed,

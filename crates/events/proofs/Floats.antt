@@ -67,6 +67,8 @@ quotient t a d n p h e =
 -- a whole number of 24 bits, divided by 16,384, loses nothing
 quotient_exact : (x : Float) (s : Bool) (n : ℕ) → n < 2 ^ 24 → HasValue x s n 1 → HasValue (div binary32 x (fin false 1 (pos 14))) s n 16384
 unfolding div
+quotient_exact nan s n h v = elim v [ ]
+quotient_exact (inf i) s n h v = elim v [ ]
 quotient_exact (fin true m e) s n h v =
     subst (λ (t : Bool). HasValue (round binary32 true (m * up e * 1) (16384 * down e)) t n 16384) v.0 (quotient true (m * up e) (down e) n (down_pos e) h v.1)
 quotient_exact (fin false m e) s n h v =
@@ -88,6 +90,8 @@ signed_small c h = go (ltb c 32768) refl
 -- and divided by 131 it is rounded once
 quotient_rounded : (x : Float) (s : Bool) (n : ℕ) → HasValue x s n 1 → div binary32 x (fin false 131 (pos 0)) ≡ round binary32 s n 131
 unfolding div
+quotient_rounded nan s n v = elim v [ ]
+quotient_rounded (inf i) s n v = elim v [ ]
 quotient_rounded (fin true m e) s n v = rounded true m e s n v
 quotient_rounded (fin false m e) s n v = rounded false m e s n v
 

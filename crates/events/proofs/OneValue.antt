@@ -7,7 +7,7 @@ use native.Mathlib.Omega.{arith}
 use lib.Dec.{T, eqb, leb, ltb}
 use lib.Pow.{pow-add, pow_pos}
 use lib.IntN.{ℤ, pos, negsuc}
-use lib.Ieee.{Float, fin, binary32, prec, low, up, down, fits}
+use lib.Ieee.{Float, nan, inf, fin, binary32, prec, low, up, down, fits}
 use lib.Ieee.Bits.{is_true}
 use lib.Ieee.Exact.{HasValue}
 use borrow.Author.Tests.{eqb-true}
@@ -85,6 +85,12 @@ same_float : {s t : Bool} {m n : ℕ} {e g : ℤ} → s ≡ t → m ≡ n → e 
 same_float p q r = cc
 
 pub one_value : (x y : Float) (s : Bool) (c k : ℕ) → 0 < k → T (fits binary32 x) → T (fits binary32 y) → HasValue x s c k → HasValue y s c k → x ≡ y
+one_value nan y s c k h p q v w = elim v [ ]
+one_value (inf i) y s c k h p q v w = elim v [ ]
+one_value (fin t zero e) nan s c k h p q v w = elim w [ ]
+one_value (fin t zero e) (inf j) s c k h p q v w = elim w [ ]
+one_value (fin t (suc m) e) nan s c k h p q v w = elim w [ ]
+one_value (fin t (suc m) e) (inf j) s c k h p q v w = elim w [ ]
 one_value (fin t zero e) (fin u zero g) s c k h p q v w = same_float (v.0 ∙ sym w.0) refl (zero_exponent t e p ∙ sym (zero_exponent u g q))
 one_value (fin t zero e) (fin u (suc n) g) s c k h p q v w = not_zero n (expo e g) (expo g e) (cross 0 (suc n) c k e g h v.1 w.1)
 one_value (fin t (suc m) e) (fin u zero g) s c k h p q v w = not_zero m (expo g e) (expo e g) (cross 0 (suc m) c k g e h w.1 v.1)

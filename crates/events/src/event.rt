@@ -7,7 +7,7 @@ use crate::readings::{acceleration, rotation, single};
 use rows::{Fault, Kind, Row, RowAt, get, good};
 
 // The bits of an IMU's seven singles as they stand in the row. A NaN's payload is kept here alone.
-#[derive(Drop)]
+#[derive(Clone, Copy)]
 pub struct Patterns {
     pub a: u32,
     pub b: u32,
@@ -19,7 +19,7 @@ pub struct Patterns {
 }
 
 // An event of each kind, with its time in microseconds. Accelerations are in g, rotations in degrees a second.
-#[derive(Drop)]
+#[derive(Clone, Copy)]
 pub enum Event {
     Pixel {
         time: u64,
@@ -61,7 +61,7 @@ pub enum Event {
 }
 
 // What a row is turned into: an event, or a refusal.
-#[derive(Drop)]
+#[derive(Clone, Copy)]
 pub enum Conversion {
     Turned(Event),
     Refused(Fault),
@@ -70,7 +70,7 @@ pub enum Conversion {
 // An event as numbers, for callers in other languages: refusal 0, the row's kind, time and seven data numbers, and the
 // readings, +0 where there are none. Refused: the refusal, and zeros.
 #[repr(C)]
-#[derive(Drop)]
+#[derive(Clone, Copy)]
 pub struct EventNumbers {
     pub refusal: u64,
     pub kind: u64,
@@ -233,6 +233,7 @@ fn row_numbers(row: Row) -> EventNumbers
 }
 
 // The event of a row of ten numbers, as numbers; of any other length it is refused 13.
+#[tactic(auto, using(crate::proofs::Shown::numbers_bad, crate::proofs::Shown::numbers_row))]
 pub fn event_numbers(numbers: &[u32]) -> EventNumbers
     ensures { result ≡ event_numbers numbers.now }
 {

@@ -29,6 +29,7 @@ pub fn rotation(count: u16) -> f32
 }
 
 // The single of 32 bits. Every pattern of a NaN gives a NaN, whose payload is free.
+#[tactic(auto, using(crate::proofs::Floats::zero_over_zero, crate::proofs::Floats::pattern_nan, crate::proofs::Floats::pattern_number))]
 pub fn single(bits: u32) -> f32
     ensures { result ≡ single_of bits }
 {

@@ -1,0 +1,11 @@
+-- `events::readings::rotation` meets its contract.
+use Rattle.std.proofs.Common.{ap}
+use Rattle.std.specs.Prelude.{Float}
+use Rattle.std.specs.Float.{binary32}
+use Rattle.std.specs.Float.Ieee.{of_bits, of_int, div}
+use Rattle.events.specs.Readings.{rotation_of}
+use Rattle.events.proofs.readings.rotation.Goals as goal
+
+pub returns : goal.returns
+unfolding rotation_of of_bits of_int
+returns c = ap (λ (x : Float). div binary32 x (of_bits binary32 1124270080)) c.signed.ensures

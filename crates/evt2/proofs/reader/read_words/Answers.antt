@@ -1,15 +1,12 @@
 -- `evt2::reader::read_words` meets its contract.
 use Rattle.evt2.proofs.Steps.{in_parts, leads, stays, pends_there}
-use Rattle.evt2.specs.Reader.{machine}
 use Rattle.evt2.specs.Words.{given_as, next_as, step}
-use Rattle.evt2.specs.State.{fresh}
 use Rattle.evt2.specs.declared.state.State.{State}
 use Rattle.evt2.specs.declared.kind.Kind.{Kind}
 use Rattle.evt2.specs.declared.kind.Kind.TheVariants.{TimeHigh, ImuEvt, Inside}
-use Rattle.words.proofs.Between.{Between, found, ends_whole, ends_pending, ends_part}
+use Rattle.words.proofs.Between.{found, ends_whole, ends_pending, ends_part}
 use Rattle.words.proofs.Between.{word_in, goes_on_gave, ends_gave_full, ends_gave}
-use Rattle.rows.specs.Row.{room_of}
-use Rattle.words.specs.Machine.{onto, read_from}
+use Rattle.words.specs.Machine.{onto}
 use Rattle.words.specs.Words.{next_at}
 use Rattle.words.specs.declared.Next.TheVariants.{Word}
 use lib.Dec.{lit<}

@@ -3,7 +3,7 @@ use Rattle.evt2.proofs.RowSteps.{counts_start, counts_done, counts_refused, coun
 use Rattle.evt2.proofs.Spelled.{row_short}
 use Rattle.rows.proofs.Lists.{row_found, row_past}
 use Rattle.rows.specs.Row.{room_of, row_from}
-use Prim.Native.Nat.{◌*◌, ◌-◌, ◌<◌}
+use Prim.Native.Nat.{◌*◌, ◌<◌}
 use native.Mathlib.Omega.{arith}
 use mathlib.Core.Path.{◌≡◌, sym, ◌∙◌}
 use Rattle.evt2.proofs.writer.count.Goals as goal

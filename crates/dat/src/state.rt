@@ -9,7 +9,7 @@ use rows::{Fault, Row};
 use words::{Gave, Picture};
 
 // What a reader knows between events: the last one's time, and 0 before the first.
-#[derive(Drop)]
+#[derive(Clone, Copy)]
 pub struct State {
     pub last: u32,
 }

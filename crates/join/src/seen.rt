@@ -4,7 +4,7 @@ ghost use Rattle.evt3.specs.Words.{kind_of};
 ghost use Rattle.join.specs.Seen.{none_seen, seen_with, all_seen};
 
 // Which words have been seen, by their kinds alone.
-#[derive(Drop)]
+#[derive(Clone, Copy)]
 pub struct Seen {
     pub high: bool,
     // A TIME_LOW after a TIME_HIGH.

@@ -6,7 +6,7 @@ use crate::seen::Seen;
 use words::Next;
 
 // The place after the word by which a TIME_HIGH, a later TIME_LOW, an ADDR_Y and a VECT_BASE_X have all been seen; or they never all are.
-#[derive(Drop)]
+#[derive(Clone, Copy)]
 pub enum Whole {
     From(usize),
     Never,
@@ -14,7 +14,7 @@ pub enum Whole {
 
 // The answer as two numbers: seen 1 and the place, or 0 and 0.
 #[repr(C)]
-#[derive(Drop)]
+#[derive(Clone, Copy)]
 pub struct WholeNumbers {
     pub seen: u64,
     pub place: u64,

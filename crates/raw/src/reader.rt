@@ -7,7 +7,7 @@ use header::Header;
 use rows::Reading;
 
 // Which words follow the header. The file itself is not asked.
-#[derive(Drop)]
+#[derive(Clone, Copy)]
 pub enum Format {
     Evt2,
     Evt3,

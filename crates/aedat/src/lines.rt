@@ -6,7 +6,7 @@ use header::Line;
 use rows::Fault;
 
 // Which line comes next.
-#[derive(Drop)]
+#[derive(Clone, Copy)]
 pub enum Stage {
     Version,
     Format,
@@ -14,7 +14,7 @@ pub enum Stage {
 }
 
 // A line: refused, or good, of some length, and the last one or not.
-#[derive(Drop)]
+#[derive(Clone, Copy)]
 pub enum Step {
     Stop(Fault),
     More(usize),
@@ -22,7 +22,7 @@ pub enum Step {
 }
 
 // Where the packets begin; or the refusal, at the first byte of the line at fault.
-#[derive(Drop)]
+#[derive(Clone, Copy)]
 pub enum Lines {
     Data(usize),
     Refused { fault: Fault, place: usize },

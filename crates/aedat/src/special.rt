@@ -3,7 +3,7 @@ ghost use Rattle.std.specs.Prelude.{◌≡◌};
 ghost use Rattle.aedat.specs.Specials.{meaning_of};
 
 // An edge on a channel, 1 rising; or a special event of its own.
-#[derive(Drop)]
+#[derive(Clone, Copy)]
 pub enum Meaning {
     Edge { channel: u32, edge: u32 },
     Other,

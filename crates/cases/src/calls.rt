@@ -6,7 +6,7 @@ use header::is_same;
 use raw::Format;
 use rows::{Reading, Writing};
 
-#[derive(Drop)]
+#[derive(Clone, Copy)]
 pub(crate) enum Reader {
     Evt2,
     Evt3,
@@ -15,14 +15,14 @@ pub(crate) enum Reader {
     Aedat,
 }
 
-#[derive(Drop)]
+#[derive(Clone, Copy)]
 pub(crate) enum Writer {
     Evt2,
     Evt3,
     Summary,
 }
 
-#[derive(Drop)]
+#[derive(Clone, Copy)]
 pub(crate) enum Call {
     Read(Reader),
     Header,
@@ -34,7 +34,7 @@ pub(crate) enum Call {
 
 // What came back: so many numbers of the answer, so many in all, so many that are no bytes; and the end of the rows that a reader says it has put, of
 // others the end of all.
-#[derive(Drop)]
+#[derive(Clone, Copy)]
 pub(crate) struct Came {
     pub(crate) answers: usize,
     pub(crate) length: usize,

@@ -4,10 +4,11 @@ use crate::calls::{Call, Came};
 use crate::data::{narrow, units};
 use crate::parts::{begin, column, first, part};
 use crate::text::{say, unit};
+use std::io;
 
 // How the columns of a call are written: whether data and what is to be in the buffer are decimal; what stands in the buffer before; and the
 // first of the call's numbers, where the case does not give it.
-#[derive(Drop)]
+#[derive(Clone, Copy)]
 struct Form {
     data: bool,
     rows: bool,
@@ -85,44 +86,46 @@ fn begins(a: &[u32], b: &[u32]) -> bool {
 }
 
 // A line on a case that does not hold.
-fn tell(line: &[u8], what: &[u8]) -> bool {
-    say(part(line, 0, begin(line, b'|', 2)));
-    say(what);
-    say(b"\n");
-    false
+fn tell(rt: &impl Print, line: &[u8], what: &[u8]) -> io::Result<bool> {
+    say(rt, part(line, 0, begin(line, b'|', 2)))?;
+    say(rt, what)?;
+    say(rt, b"\n")?;
+    Ok(false)
 }
 
-fn say_all(list: &[u32], came: Came) {
+fn say_all(rt: &impl Print, list: &[u32], came: Came) -> io::Result<()> {
     let mut i = 0;
     while i < list.len() {
         if i == came.answers {
-            say(b" |");
+            say(rt, b" |")?;
         }
         if i == came.rows {
-            say(b" then");
+            say(rt, b" then")?;
         }
-        unit(list[i], i < came.decimals);
+        unit(rt, list[i], i < came.decimals)?;
         i += 1;
     }
+    Ok(())
 }
 
 // What came back of a case that does not hold.
-fn tell_all(line: &[u8], list: &[u32], came: Came) -> bool {
-    say(part(line, 0, begin(line, b'|', 2)));
-    say_all(list, came);
-    say(b"\n");
-    false
+fn tell_all(rt: &impl Print, line: &[u8], list: &[u32], came: Came) -> io::Result<bool> {
+    say(rt, part(line, 0, begin(line, b'|', 2)))?;
+    say_all(rt, list, came)?;
+    say(rt, b"\n")?;
+    Ok(false)
 }
 
 // Calls, and compares: a reader's rows end where the stated ones do, and all numbers are the stated ones.
 fn holds_for(
+    rt: &impl Print,
     line: &[u8],
     call: Call,
     form: Form,
     data: &[u32],
     stated: &[u32],
     end: usize,
-) -> bool {
+) -> io::Result<bool> {
     let mut given = [form.given, 2048, 2048];
     let words = column(line, b'|', 1);
     let numbers = part(words, begin(words, b' ', 2), words.len());
@@ -132,15 +135,15 @@ fn holds_for(
     let mut list = [form.before; 8192];
     let came = calls::run(call, given, data, part(&input, 0, data.len()), &mut list);
     if 8192 < came.length {
-        return tell(line, b" does not fit");
+        return tell(rt, line, b" does not fit");
     }
     let list = first(&list, came.length);
     if (came.rows == came.length) | (came.rows == end) {
         if begins(list, stated) {
-            return true;
+            return Ok(true);
         }
     }
-    tell_all(line, list, came)
+    tell_all(rt, line, list, came)
 }
 
 // The numbers of a column.
@@ -149,10 +152,10 @@ fn column_into(line: &[u8], count: usize, from: usize, decimal: bool, list: &mut
 }
 
 // Whether the case of a line holds.
-pub(crate) fn holds(line: &[u8]) -> bool {
+pub(crate) fn holds(rt: &impl Print, line: &[u8]) -> io::Result<bool> {
     let place = calls::place_of(column(column(line, b'|', 1), b' ', 1));
     if place == 14 {
-        return tell(line, b" no such call");
+        return tell(rt, line, b" no such call");
     }
     let call = calls::call_of(place);
     let form = form_of(call);
@@ -162,12 +165,12 @@ pub(crate) fn holds(line: &[u8]) -> bool {
     let mut stated = [form.before; 8192];
     let answer = column_into(line, 3, 0, true, &mut stated);
     if answer == 0 {
-        return tell(line, b" no case");
+        return tell(rt, line, b" no case");
     }
     let buffer = column_into(line, 4, answer, form.rows, &mut stated);
     let end = column_into(line, 5, buffer, false, &mut stated);
     if (8192 < to) | (8192 < end) {
-        return tell(line, b" does not fit");
+        return tell(rt, line, b" does not fit");
     }
-    holds_for(line, call, form, first(&data, to), &stated, end)
+    holds_for(rt, line, call, form, first(&data, to), &stated, end)
 }

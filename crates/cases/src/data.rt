@@ -9,7 +9,7 @@ use std::num::{wrapping_add_usize, wrapping_sub_usize};
 const NOWHERE: usize = 1099511627776;
 
 // A column under way.
-#[derive(Drop)]
+#[derive(Clone, Copy)]
 struct Run {
     decimal: bool,
     // After a star, within quotes, after a backslash.

@@ -3,9 +3,10 @@
 // the table state what is wrong, to show that this is seen; the file stdout has their lines. No answer is taken from a run.
 #![tactic(auto)]
 
-ghost use Rattle.std.specs.Prelude.{◌≡◌, length};
+ghost use Rattle.std.specs.Prelude.{◌≡◌, ◌≤◌, length, IfOk};
 
-use libc::{STDIN_FILENO, STDOUT_FILENO};
+use std::io;
+use std::io::Read;
 use std::num::wrapping_add_u64;
 
 mod calls;
@@ -14,7 +15,7 @@ mod data;
 mod parts;
 mod text;
 
-#[derive(Drop)]
+#[derive(Clone, Copy)]
 struct Tally {
     cases: u64,
     failed: u64,
@@ -22,24 +23,24 @@ struct Tally {
 
 impl Tally {
     // After a line; one that is empty or begins with `#` is no case.
-    fn after(mut self, line: &[u8]) -> Tally {
+    fn after(mut self, rt: &impl Print, line: &[u8]) -> io::Result<Tally> {
         if line.len() == 0 {
-            return self;
+            return Ok(self);
         }
         if line[0] == b'#' {
-            return self;
+            return Ok(self);
         }
         self.cases = wrapping_add_u64(self.cases, 1);
-        if case::holds(line) {
-            return self;
+        if case::holds(rt, line)? {
+            return Ok(self);
         }
         self.failed = wrapping_add_u64(self.failed, 1);
-        self
+        Ok(self)
     }
 }
 
 // All lines of a table.
-fn lines(table: &[u8]) -> Tally {
+fn lines(rt: &impl Print, table: &[u8]) -> io::Result<Tally> {
     let mut tally = Tally {
         cases: 0,
         failed: 0,
@@ -47,13 +48,13 @@ fn lines(table: &[u8]) -> Tally {
     let mut from = 0;
     while from < table.len() {
         let to = parts::find(table, from, b'\n');
-        tally = tally.after(parts::part(table, from, to));
+        tally = tally.after(rt, parts::part(table, from, to))?;
         if to == table.len() {
-            return tally;
+            return Ok(tally);
         }
         from = to + 1;
     }
-    tally
+    Ok(tally)
 }
 
 fn buffer() -> [u8; 262144]
@@ -62,15 +63,31 @@ fn buffer() -> [u8; 262144]
     [0; 262144]
 }
 
-fn main() {
-    let mut table = buffer();
-    let n = io::read_full(STDIN_FILENO, &mut table);
-    let tally = lines(&table[..n]);
-    io::print_decimal(STDOUT_FILENO, tally.cases);
-    text::say(b" cases, ");
-    io::print_decimal(STDOUT_FILENO, tally.failed);
-    text::say(b" of them do not hold\n");
-    if n == 262144 {
-        text::say(b"the table does not fit\n");
+// Reads until the buffer is full or the input ends, and answers how many bytes stand at its front then.
+fn read_full(input: &mut impl Read, buf: &mut [u8]) -> io::Result<usize>
+    ensures { IfOk result (λ n. n ≤ length buf.new) }
+{
+    let mut done = 0;
+    while done < buf.len() {
+        let n = input.read(&mut buf[done..])?;
+        if n == 0 {
+            return Ok(done);
+        }
+        done += n;
     }
+    Ok(done)
+}
+
+fn main(rt: HostRuntime) -> io::Result<()> {
+    let mut table = buffer();
+    let n = read_full(&mut rt.stdin(), &mut table)?;
+    let tally = lines(&rt, &table[..n])?;
+    println!(rt;
+        "{} cases, {} of them do not hold",
+        tally.cases, tally.failed
+    )?;
+    if n == 262144 {
+        text::say(&rt, b"the table does not fit\n")?;
+    }
+    Ok(())
 }

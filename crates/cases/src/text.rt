@@ -1,16 +1,14 @@
 // Text on standard output.
-use libc::STDOUT_FILENO;
+use std::io;
 
-pub(crate) fn say(text: &[u8]) {
-    io::write_all(STDOUT_FILENO, text);
+pub(crate) fn say(rt: &impl Print, text: &[u8]) -> io::Result<()> {
+    rt.write_all(text)
 }
 
 // A space and a number, a byte in two hexadecimal digits where it is one.
-pub(crate) fn unit(n: u32, decimal: bool) {
-    say(b" ");
+pub(crate) fn unit(rt: &impl Print, n: u32, decimal: bool) -> io::Result<()> {
     if decimal {
-        io::print_decimal(STDOUT_FILENO, n as u64);
-        return;
+        return print!(rt; " {n}");
     }
-    io::print_hex(STDOUT_FILENO, n as u64, 2);
+    print!(rt; " {n:02x}")
 }

@@ -47,6 +47,7 @@ impl Picture {
 }
 
 // Refusal 1 for too long an input, then 14 for a bad picture.
+#[tactic(auto, unfolding(crate::specs::Picture::admission_of))]
 pub fn admit(bytes: &[u8], picture: Picture) -> Admission
     ensures { result ≡ admission_of (length bytes.now) picture }
 {

@@ -4,4 +4,3 @@
 // input and what is seen of it each, and proofs/Kept.antt computes the meanings of the readers and the writer. The cases that are run
 // are in crates/cases.
 #![tactic(auto)]
-

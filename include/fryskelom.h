@@ -1,8 +1,8 @@
 /* Fryskelom: events of an event camera's recording, read and written by a proved library.
  *
- * `rt staticlib fryskelom` writes the library, and this line links a program with it, in the folder of the repository:
+ * `rt lib` in crates/fryskelom writes the library, and this line links a program with it, in the folder of the repository:
  *
- *     cc program.c -Iinclude -Ltarget/staticlib -lfryskelom -o program
+ *     cc program.c -Iinclude -Lcrates/fryskelom/out -lfryskelom -o program
  *
  * A buffer passes as a pointer and the number of its elements. No pointer is null, also where the number is 0, and no two
  * buffers of one call overlap; what a call does otherwise is not promised. */

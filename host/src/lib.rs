@@ -3,7 +3,7 @@
 //! Nothing here decides a result: a slice is handed over, and what comes back is given a Rust type. A Rust slice is never
 //! null and a `&mut` slice overlaps no other, which is all that the interface asks of its callers.
 //!
-//! In the `Cargo.toml` of a program, with the path of this folder, after `rt staticlib fryskelom` in the repository:
+//! In the `Cargo.toml` of a program, with the path of this folder, after `rt lib` in `crates/fryskelom`:
 //!
 //! ```toml
 //! [dependencies]

@@ -60,11 +60,7 @@ impl Run {
 
 /// An empty folder.
 pub fn folder(name: &str) -> PathBuf {
-    let path = Path::new(env!("CARGO_TARGET_TMPDIR")).join("command").join(name);
-    // it is there if the tests ran before
-    let _ = fs::remove_dir_all(&path);
-    fs::create_dir_all(&path).expect("a folder for the test");
-    path
+    trials::folder(&format!("command/{name}"))
 }
 
 /// The names of a folder's files.

@@ -4,22 +4,21 @@ use super::run::{folder, Run, BINARY};
 use std::env;
 use std::fs::{self, File, FileTimes, Permissions};
 use std::os::unix::fs::{symlink, PermissionsExt};
-use std::path::PathBuf;
+use std::path::{Path, PathBuf};
 use std::process::Command;
 use std::time::{Duration, SystemTime};
 use trials::in_repository;
 
-const LIBRARY: &str = "target/staticlib/libfryskelom.a";
+const LIBRARY: &str = "crates/fryskelom/out/libfryskelom.a";
 const COMMAND: &str = "host/target/release/fryskelom";
-/// The file under `crates/` does not have Rattle's suffix: rt looks for Rattle files in the whole repository, the folders of these tests included, and fails on
-/// one that belongs to no crate.
-const SOURCES: [&str; 5] = ["crates/rows/src/lib", "crates.txt", "host/src/lib.rs", "host/build.rs", "host/Cargo.toml"];
+const SOURCES: [&str; 7] =
+    ["crates/rows/src/lib.rt", "crates/rows/specs/Row.antt", "crates/fryskelom/src/lib.rt", "crates.txt", "host/src/lib.rs", "host/build.rs", "host/Cargo.toml"];
 
 /// Programs that say everything on standard output, and write nothing anew that is there.
 const RT: &str = "#!/bin/sh
 echo rt $(basename \"$PWD\") \"$@\"
-mkdir -p target/staticlib
-[ -e target/staticlib/libfryskelom.a ] || : > target/staticlib/libfryskelom.a
+mkdir -p out
+[ -e out/libfryskelom.a ] || : > out/libfryskelom.a
 ";
 const CARGO: &str = "#!/bin/sh
 echo cargo $(basename \"$PWD\") \"$@\"
@@ -84,7 +83,7 @@ impl Tree {
     }
 }
 
-const PROVING: &str = "proving and building the library, which takes some minutes the first time\nrt the tree staticlib fryskelom\n";
+const PROVING: &str = "proving and building the library, which takes some minutes the first time\nrt fryskelom lib\n";
 const BUILDING: &str = "building the command\ncargo host build --release --offline --bin fryskelom --target-dir target\n";
 
 #[test]
@@ -109,7 +108,7 @@ fn what_is_older_than_its_sources_is_built_again() {
         // everything a minute old but this source
         [LIBRARY, COMMAND].iter().for_each(|built| tree.set_time(built, -30));
         SOURCES.iter().for_each(|other| tree.set_time(other, -60));
-        ["crates", "crates/rows", "crates/rows/src", "host/src"].iter().for_each(|folder| tree.set_time(folder, -60));
+        ["crates/rows/src", "crates/rows/specs", "crates/fryskelom/src", "host/src"].iter().for_each(|folder| tree.set_time(folder, -60));
         assert_eq!(tree.rows().good().text(), DAT_ROWS);
         tree.set_time(source, -10);
         let told = if source.starts_with("crates") { format!("{PROVING}{BUILDING}") } else { BUILDING.to_string() };
@@ -121,12 +120,22 @@ fn what_is_older_than_its_sources_is_built_again() {
 
 #[test]
 fn a_newer_test_builds_nothing() {
-    let tree = Tree::new("script-tests");
+    newer_builds_nothing("script-tests", &["host/tests/command.rs", "host/trials/src/lib.rs", "host/trials/Cargo.toml", "crates/rows/must-fail/limit.edit"]);
+}
+
+#[test]
+fn what_rt_makes_builds_nothing() {
+    newer_builds_nothing("script-out", &["crates/rows/out/incremental/kept", "crates/rows/out/rlib/stamp", "crates/fryskelom/out/kept"]);
+}
+
+fn newer_builds_nothing(name: &str, newer: &[&str]) {
+    let tree = Tree::new(name);
     tree.rows();
-    for test in ["host/tests/command.rs", "host/trials/src/lib.rs", "host/trials/Cargo.toml"] {
-        tree.file(&format!("the tree/{test}"), "");
-        tree.set_time(test, 60);
-        assert_eq!(tree.rows().good().text(), DAT_ROWS, "{test}");
+    for file in newer {
+        tree.file(&format!("the tree/{file}"), "");
+        let above = Path::new(file).ancestors().filter(|path| path.starts_with("crates") && path.components().count() > 1);
+        above.chain([Path::new(file)]).for_each(|path| tree.set_time(path.to_str().expect("a path of text"), 60));
+        assert_eq!(tree.rows().good().text(), DAT_ROWS, "{file}");
     }
 }
 

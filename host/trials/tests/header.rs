@@ -182,7 +182,7 @@ fn a_c_program_sees_the_same() {
         .args(["-std=c99", "-Wall", "-Wextra", "-Werror", "-pedantic", "-I"])
         .arg(in_repository("include"))
         .arg(&source)
-        .arg(in_repository("target/staticlib/libfryskelom.a"))
+        .arg(in_repository("crates/fryskelom/out/libfryskelom.a"))
         .arg("-o")
         .arg(&program)
         .status()

@@ -3,7 +3,7 @@ use fryskelom::*;
 use std::collections::BTreeSet;
 use std::env;
 use std::fs;
-use std::path::{Path, PathBuf};
+use std::path::PathBuf;
 use std::process::Command;
 use trials::samples::recordings::RECORDINGS;
 use trials::samples::{aedat, dat, evt2, evt3, Numbers};
@@ -14,11 +14,7 @@ const HEADER: &str = include_str!("../../../include/fryskelom.h");
 const DECLARATIONS: &str = include_str!("../../src/sys.rs");
 
 fn folder(name: &str) -> PathBuf {
-    let path = Path::new(env!("CARGO_TARGET_TMPDIR")).join("wrapper").join(name);
-    // it is there if the tests ran before
-    let _ = fs::remove_dir_all(&path);
-    fs::create_dir_all(&path).expect("a folder for the test");
-    path
+    trials::folder(&format!("wrapper/{name}"))
 }
 
 /// The names of the C header, and the numbers that they have in Rust.

@@ -43,8 +43,7 @@ enum {
     FRY_CLOCK_RESET = 11, /* the camera's clock was reset */
     FRY_BAD_ROW = 12,     /* a bad row, or one that the format cannot write */
     FRY_BAD_LIST = 13,    /* a list whose length is no multiple of ten, or over 16777216 rows */
-    FRY_BAD_PICTURE = 14, /* a picture width or height of 0 or over 2048 */
-    FRY_BAD_SUMMARY = 17  /* a bad summary */
+    FRY_BAD_PICTURE = 14  /* a picture width or height of 0 or over 2048 */
 };
 
 /* As many rows as so many bytes can give, of words or of a whole file: a buffer of FRY_ROW_NUMBERS times as many numbers is always enough. */
@@ -57,22 +56,12 @@ enum {
 #define FRY_MOST_WORDS_EVT2(rows) (7 * (rows))
 #define FRY_MOST_WORDS_EVT3(rows, last_time) (4 * (rows) + 2 * ((last_time) / 16777216))
 
-/* The numbers of a block of a summary: first, last, smallest and largest time, and the number of rows of each kind, 1 to 6. */
-#define FRY_BLOCK_NUMBERS 10
-
-/* The blocks of so many rows: 256 rows each, of which the last may have fewer; and the bytes of their stored summary. */
-#define FRY_BLOCKS(rows) (((rows) + 255) / 256)
-#define FRY_SUMMARY_BYTES(rows) (7 + 59 * FRY_BLOCKS(rows))
-
-/* As many blocks as a stored summary of so many bytes can have: a buffer of FRY_BLOCK_NUMBERS times as many numbers is always enough. */
-#define FRY_MOST_BLOCKS(bytes) ((bytes) / 59)
-
 /* A reader's answer. refusal 0: finished, and place is 0. Else rows are those finished before the fault, place the byte where it lies. */
 typedef struct {
     uint64_t refusal, rows, place;
 } fry_reading;
 
-/* A writer's answer. refusal 0: count words were written, or bytes of a summary. Else count is the index of the first bad row, and 0 for 2 and 13. */
+/* A writer's answer. refusal 0: count words were written. Else count is the index of the first bad row, and 0 for 2 and 13. */
 typedef struct {
     uint64_t refusal, count;
 } fry_writing;
@@ -88,11 +77,6 @@ typedef struct {
 typedef struct {
     uint64_t seen, place;
 } fry_whole;
-
-/* A stored summary's answer. refusal 0: rows is the row count. Else rows is 0. */
-typedef struct {
-    uint64_t refusal, rows;
-} fry_summary;
 
 /* The event of a row: its kind, its time in microseconds, the row's own seven numbers, and for an IMU the readings
  * (acceleration X, Y, Z in g, rotation X, Y, Z in degrees a second, temperature), +0 where there are none.
@@ -172,20 +156,6 @@ fry_writing fry_write_evt2(const uint32_t *rows, size_t rows_len, uint8_t *out, 
  * (16777216 microseconds) up to the last row's time. Kinds 1 and 2 are written, pixels of cameras 0 and 1, channels below 16. All else,
  * refusals and their order among it, is as in fry_write_evt2. */
 fry_writing fry_write_evt3(const uint32_t *rows, size_t rows_len, uint8_t *out, size_t out_len);
-
-/* Writes the summary of rows from out[0] on, and answers its bytes, which are FRY_SUMMARY_BYTES of the number of rows. What follows them is not
- * touched. Rows of every kind are summed up, of either camera, in any order of time. The bytes are fields: a tag of one byte, the length of the contents
- * in two, and the contents, all numbers low byte first. Tag 1 (4 bytes) is the row count; for each block of 256 rows, of which the last may have fewer,
- * tag 2 (56 bytes) is its first, last, smallest and largest time, 8 bytes each, and its number of rows of each kind, 1 to 6, 4 bytes each.
- * Refused, in this order, and then nothing is touched: 13, 12 for the first row that is not good, and 2 where out is too short. */
-fry_writing fry_write_summary(const uint32_t *rows, size_t rows_len, uint8_t *out, size_t out_len);
-
-/* Reads a stored summary: answers the row count, and puts the numbers of each block, as many as FRY_BLOCK_NUMBERS, into blocks, from blocks[0] on.
- * blocks_len counts numbers. What follows them is not touched. Fields of other tags are passed over.
- * Refused, in this order, and then nothing is touched: 1; 17, for a field that is cut, a wrong length of tag 1 or 2, a tag 1 that is missing, repeated
- * or after a tag 2, a number of blocks that is not that of the row count, a block whose kinds' numbers do not add up to its rows, and one that has rows of
- * kind 5; and 2 where blocks is too short. The times are not judged. */
-fry_summary fry_read_summary(const uint8_t *bytes, size_t bytes_len, uint64_t *blocks, size_t blocks_len);
 
 #ifdef __cplusplus
 }

@@ -44,12 +44,6 @@ pub const DAT_SIDE: u32 = 16_384;
 /// The numbers of a row: kind, time mod 2^32, time div 2^32, and seven data numbers.
 pub const ROW_NUMBERS: usize = 10;
 
-/// The rows of a block of a summary; the last block may have fewer.
-pub const BLOCK_ROWS: usize = 256;
-
-/// The numbers of a block: first, last, smallest and largest time, and the number of rows of each kind, 1 to 6.
-pub const BLOCK_NUMBERS: usize = 10;
-
 /// Microseconds from one wrap of the EVT3 clock to the next. The times of rows count every wrap.
 pub const EVT3_WRAP: u64 = 16_777_216;
 
@@ -86,10 +80,9 @@ impl Refusal {
     pub const BAD_ROW: Refusal = Refusal(12);
     pub const BAD_LIST: Refusal = Refusal(13);
     pub const BAD_PICTURE: Refusal = Refusal(14);
-    pub const BAD_SUMMARY: Refusal = Refusal(17);
 
     /// All refusals, in the order of their numbers.
-    pub const ALL: [Refusal; 14] = [
+    pub const ALL: [Refusal; 13] = [
         Refusal::TOO_LONG,
         Refusal::NO_ROOM,
         Refusal::RESERVED,
@@ -103,7 +96,6 @@ impl Refusal {
         Refusal::BAD_ROW,
         Refusal::BAD_LIST,
         Refusal::BAD_PICTURE,
-        Refusal::BAD_SUMMARY,
     ];
 
     /// What was found, in plain words.
@@ -122,7 +114,6 @@ impl Refusal {
             Refusal::BAD_ROW => "a bad row, or one that the format cannot write",
             Refusal::BAD_LIST => "a list whose length is no multiple of ten, or over 16777216 rows",
             Refusal::BAD_PICTURE => "a picture width or height of 0 or over 2048",
-            Refusal::BAD_SUMMARY => "a bad summary",
             _ => "no refusal has this number",
         }
     }
@@ -296,63 +287,13 @@ pub fn read_aedat(bytes: &[u8], rows: &mut [u32]) -> Result<usize, Fault> {
 /// there are: at most seven for a row. What follows them is left as it was, and all of the buffer where the list is refused. EVT2 has no
 /// words for pixels of camera 1 (12).
 pub fn write_evt2(rows: &[u32], out: &mut [u8]) -> Result<usize, RowFault> {
-    written(sys::fry_write_evt2, rows, out)
+    write_words(sys::fry_write_evt2, rows, out)
 }
 
 /// Writes a list of rows, of either camera, as EVT3 words of two bytes: at most four for a row, and two more for each wrap of the clock
 /// ([`EVT3_WRAP`]) up to the last row's time. All else is as in [`write_evt2`].
 pub fn write_evt3(rows: &[u32], out: &mut [u8]) -> Result<usize, RowFault> {
-    written(sys::fry_write_evt3, rows, out)
-}
-
-/// Writes the summary of a list of rows, ten numbers each, from the buffer's first byte on, and answers its bytes, which are [`summary_bytes`] of its rows. What
-/// follows them is left as it was, and all of the buffer where the list is refused: 13, then 12 for the first row that is not good, then 2. Rows of every kind are
-/// summed up, of either camera, in any order of time.
-///
-/// The bytes are fields of a tag (one byte), a length (two) and contents, all numbers low byte first: tag 1 is the row count, and tag 2 a block of [`BLOCK_ROWS`] rows,
-/// four times of 8 bytes and six numbers of 4:
-///
-/// ```
-/// use fryskelom::{blocks_of, kind, read_summary, summary_bytes, write_summary, BLOCK_NUMBERS};
-///
-/// // a pixel at 7 microseconds, and a trigger at 3
-/// let rows = [kind::PIXEL, 7, 0, 5, 3, 1, 0, 0, 0, 0, kind::TRIGGER, 3, 0, 0, 1, 0, 0, 0, 0, 0];
-/// let mut stored = vec![0; summary_bytes(2)];
-/// assert_eq!(write_summary(&rows, &mut stored), Ok(66));
-/// let mut blocks = vec![0; BLOCK_NUMBERS * blocks_of(2)];
-/// assert_eq!(read_summary(&stored, &mut blocks), Ok(2));
-/// // first, last, smallest and largest time; a pixel, a trigger, and none of the other kinds
-/// assert_eq!(blocks, [7, 3, 3, 7, 1, 1, 0, 0, 0, 0]);
-/// ```
-pub fn write_summary(rows: &[u32], out: &mut [u8]) -> Result<usize, RowFault> {
-    written(sys::fry_write_summary, rows, out)
-}
-
-/// Reads a stored summary: answers the row count, and puts the [`BLOCK_NUMBERS`] numbers of each block into the buffer, from its first number on. What follows them is left
-/// as it was, and all of the buffer where the bytes are refused: 1, then 17, then 2. A buffer of [`most_blocks`] blocks is always enough. Fields of unknown tags are passed
-/// over; times are not judged.
-pub fn read_summary(bytes: &[u8], blocks: &mut [u64]) -> Result<usize, Refusal> {
-    // SAFETY: as in `read_words`.
-    let sys::FrySummary { refusal, rows } = unsafe { sys::fry_read_summary(bytes.as_ptr(), bytes.len(), blocks.as_mut_ptr(), blocks.len()) };
-    match refusal {
-        0 => Ok(rows as usize),
-        _ => Err(Refusal(refusal)),
-    }
-}
-
-/// The blocks of so many rows.
-pub const fn blocks_of(rows: usize) -> usize {
-    rows.div_ceil(BLOCK_ROWS)
-}
-
-/// The bytes of the stored summary of so many rows.
-pub const fn summary_bytes(rows: usize) -> usize {
-    7 + 59 * blocks_of(rows)
-}
-
-/// As many blocks as a stored summary of so many bytes can have.
-pub const fn most_blocks(bytes: usize) -> usize {
-    bytes / 59
+    write_words(sys::fry_write_evt3, rows, out)
 }
 
 /// As many rows as so many bytes of EVT2 words can give, and a RAW file of them. A buffer of ten times as many numbers is always enough.
@@ -403,7 +344,7 @@ fn reading(sys::FryReading { refusal, rows, place }: sys::FryReading) -> Result<
     }
 }
 
-fn written(writer: sys::Writer, rows: &[u32], out: &mut [u8]) -> Result<usize, RowFault> {
+fn write_words(writer: sys::WordWriter, rows: &[u32], out: &mut [u8]) -> Result<usize, RowFault> {
     // SAFETY: as in `read_words`.
     let sys::FryWriting { refusal, count } = unsafe { writer(rows.as_ptr(), rows.len(), out.as_mut_ptr(), out.len()) };
     let count = count as usize;

@@ -1,4 +1,4 @@
-//! The command `fryskelom`: what a recording holds, its rows and their summary as text, and either of these written to a file.
+//! The command `fryskelom`: what a recording holds, its rows as text, and its words written anew.
 mod command;
 
 use std::process::ExitCode;

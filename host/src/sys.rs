@@ -22,12 +22,6 @@ pub struct FryHeader {
 }
 
 #[repr(C)]
-pub struct FrySummary {
-    pub refusal: u64,
-    pub rows: u64,
-}
-
-#[repr(C)]
 pub struct FryWhole {
     pub seen: u64,
     pub place: u64,
@@ -45,8 +39,8 @@ pub struct FryEvent {
 /// What every reader of words is: bytes and their number, width, height, rows and how many numbers they have.
 pub type WordReader = unsafe extern "C" fn(*const u8, usize, u32, u32, *mut u32, usize) -> FryReading;
 
-/// What every writer is: rows and how many numbers they have, the buffer and its number of bytes.
-pub type Writer = unsafe extern "C" fn(*const u32, usize, *mut u8, usize) -> FryWriting;
+/// What every writer of words is: rows and how many numbers they have, the buffer and its number of bytes.
+pub type WordWriter = unsafe extern "C" fn(*const u32, usize, *mut u8, usize) -> FryWriting;
 
 /// What every reader of files is: bytes and their number, rows and how many numbers they have.
 pub type FileReader = unsafe extern "C" fn(*const u8, usize, *mut u32, usize) -> FryReading;
@@ -58,8 +52,6 @@ extern "C" {
     pub fn fry_read_evt3(bytes: *const u8, bytes_len: usize, width: u32, height: u32, rows: *mut u32, rows_len: usize) -> FryReading;
     pub fn fry_write_evt3(rows: *const u32, rows_len: usize, out: *mut u8, out_len: usize) -> FryWriting;
     pub fn fry_whole_evt3(bytes: *const u8, bytes_len: usize) -> FryWhole;
-    pub fn fry_write_summary(rows: *const u32, rows_len: usize, out: *mut u8, out_len: usize) -> FryWriting;
-    pub fn fry_read_summary(bytes: *const u8, bytes_len: usize, blocks: *mut u64, blocks_len: usize) -> FrySummary;
     pub fn fry_read_header(bytes: *const u8, bytes_len: usize, limit: u32) -> FryHeader;
     pub fn fry_read_raw_evt2(bytes: *const u8, bytes_len: usize, rows: *mut u32, rows_len: usize) -> FryReading;
     pub fn fry_read_raw_evt3(bytes: *const u8, bytes_len: usize, rows: *mut u32, rows_len: usize) -> FryReading;

@@ -25,7 +25,5 @@ mod rows;
 mod run;
 #[path = "command/script.rs"]
 mod script;
-#[path = "command/summary.rs"]
-mod summary;
 #[path = "command/usage.rs"]
 mod usage;

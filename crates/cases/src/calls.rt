@@ -16,19 +16,12 @@ pub(crate) enum Reader {
 }
 
 #[derive(Clone, Copy)]
-pub(crate) enum Writer {
-    Evt2,
-    Evt3,
-    Summary,
-}
-
-#[derive(Clone, Copy)]
 pub(crate) enum Call {
     Read(Reader),
     Header,
     Whole,
-    Summary,
-    Write(Writer),
+    // EVT3 words, or EVT2 words.
+    Write(bool),
     Event,
 }
 
@@ -42,12 +35,12 @@ pub(crate) struct Came {
     pub(crate) rows: usize,
 }
 
-// How many names stand before a name in the list of all; 14 where it is none of them.
+// How many names stand before a name in the list of all; 12 where it is none of them.
 pub(crate) fn place_of(name: &[u8]) -> usize {
     let names =
-        b"evt2 evt3 raw-evt2 raw-evt3 dat aedat packets header whole summary write-evt2 write-evt3 write-summary event ";
+        b"evt2 evt3 raw-evt2 raw-evt3 dat aedat packets header whole write-evt2 write-evt3 event ";
     let mut i = 0;
-    while i < 14 {
+    while i < 12 {
         if is_same(name, column(names, b' ', i)) {
             return i;
         }
@@ -68,10 +61,8 @@ pub(crate) fn call_of(place: usize) -> Call {
         6 => Call::Read(Reader::Aedat),
         7 => Call::Header,
         8 => Call::Whole,
-        9 => Call::Summary,
-        10 => Call::Write(Writer::Evt2),
-        11 => Call::Write(Writer::Evt3),
-        12 => Call::Write(Writer::Summary),
+        9 => Call::Write(false),
+        10 => Call::Write(true),
         _ => Call::Event,
     }
 }
@@ -147,45 +138,19 @@ fn find_whole(input: &[u8], came: &mut [u32]) -> Came {
     }
 }
 
-// Each number of blocks as two, its lower and its upper 32 bits.
-fn put_halves(numbers: &[u64; 64], came: &mut [u32]) {
-    let mut i = 0;
-    while i < 64 {
-        put(came, 2 + 2 * i, (numbers[i] % 4294967296) as u32);
-        put(came, 3 + 2 * i, small(numbers[i] / 4294967296));
-        i += 1;
+// What is written by the writer of EVT3 or that of EVT2.
+fn write_by(three: bool, list: &[u32], out: &mut [u8]) -> Writing {
+    if three {
+        return evt3::write(list, out);
     }
+    evt2::write(list, out)
 }
 
-fn read_summary(room: u32, input: &[u8], came: &mut [u32]) -> Came {
-    let mut blocks = [30064771079u64; 64];
-    let to = least(room as usize, 64);
-    let from = least(0, to);
-    let answer = summary::read(input, &mut blocks[from..to]).numbers();
-    put_halves(&blocks, came);
-    put_two(came, answer.refusal, answer.rows);
-    let length = room as usize * 2 + 2;
-    Came {
-        answers: 2,
-        length,
-        decimals: length,
-        rows: length,
-    }
-}
-
-fn write_by(writer: Writer, list: &[u32], out: &mut [u8]) -> Writing {
-    match writer {
-        Writer::Evt2 => evt2::write(list, out),
-        Writer::Evt3 => evt3::write(list, out),
-        Writer::Summary => summary::write(list, out),
-    }
-}
-
-fn write(writer: Writer, room: u32, list: &[u32], came: &mut [u32]) -> Came {
+fn write(three: bool, room: u32, list: &[u32], came: &mut [u32]) -> Came {
     let mut out = [9u8; 8192];
     let to = least(room as usize, 8192);
     let from = least(0, to);
-    let writing = write_by(writer, list, &mut out[from..to]).numbers();
+    let writing = write_by(three, list, &mut out[from..to]).numbers();
     widen(&out, came, 2);
     put_two(came, writing.refusal, writing.count);
     Came {
@@ -242,8 +207,7 @@ pub(crate) fn run(
         Call::Read(reader) => read(reader, given[0], given[1], given[2], input, came),
         Call::Header => read_header(given[0], input, came),
         Call::Whole => find_whole(input, came),
-        Call::Summary => read_summary(given[0], input, came),
-        Call::Write(writer) => write(writer, given[0], list, came),
+        Call::Write(three) => write(three, given[0], list, came),
         Call::Event => make_event(list, came),
     }
 }

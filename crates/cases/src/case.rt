@@ -36,12 +36,6 @@ fn form_of(call: Call) -> Form {
             before: 0,
             given: 0,
         },
-        Call::Summary => Form {
-            data: false,
-            rows: true,
-            before: 7,
-            given: 20,
-        },
         Call::Write(_) => Form {
             data: true,
             rows: false,
@@ -154,7 +148,7 @@ fn column_into(line: &[u8], count: usize, from: usize, decimal: bool, list: &mut
 // Whether the case of a line holds.
 pub(crate) fn holds(rt: &impl Print, line: &[u8]) -> io::Result<bool> {
     let place = calls::place_of(column(column(line, b'|', 1), b' ', 1));
-    if place == 14 {
+    if place == 12 {
         return tell(rt, line, b" no such call");
     }
     let call = calls::call_of(place);

@@ -1,4 +1,4 @@
-// The C interface: the readers, the writers, summaries, the event of a row and the place from which on nothing is missing, under C names, and nothing but calls.
+// The C interface: the readers, the writers, the event of a row and the place from which on nothing is missing, under C names, and nothing but calls.
 //
 // include/fryskelom.h declares what stands here, under the names that C callers use. A slice passes as a pointer and a
 // length; the pointer is never null, and buffers do not overlap.
@@ -8,8 +8,6 @@ ghost use Rattle.std.specs.Prelude.{◌≡◌};
 ghost use Rattle.events.specs.Event.{event_numbers};
 ghost use Rattle.rows.specs.Row.{room_of};
 ghost use Rattle.rows.specs.Runs.{ReadNumbers};
-ghost use Rattle.summary.specs.Reader as summary;
-ghost use Rattle.summary.specs.Writer.{WroteSummaryNumbers};
 ghost use Rattle.words.specs.Picture.{picture_of};
 ghost use Rattle.words.specs.Writer.{WroteNumbers};
 ghost use Rattle.header.specs.Header.{header_of, header_numbers};
@@ -28,7 +26,6 @@ use header::HeaderNumbers;
 use join::WholeNumbers;
 use raw::Format;
 use rows::{ReadingNumbers, WritingNumbers};
-use summary::SummaryNumbers;
 
 // The event of a row of ten numbers.
 #[unsafe(no_mangle)]
@@ -86,22 +83,6 @@ pub extern "C" fn fry_whole_evt3(bytes: &[u8]) -> WholeNumbers
     ensures { result ≡ whole_numbers (whole_from bytes.now) }
 {
     join::whole_from(bytes).numbers()
-}
-
-// The stored summary of rows.
-#[unsafe(no_mangle)]
-pub extern "C" fn fry_write_summary(rows: &[u32], out: &mut [u8]) -> WritingNumbers
-    ensures { WroteSummaryNumbers rows.now out.old out.new result }
-{
-    summary::write(rows, out).numbers()
-}
-
-// The row count of a stored summary, and the numbers of its blocks.
-#[unsafe(no_mangle)]
-pub extern "C" fn fry_read_summary(bytes: &[u8], blocks: &mut [u64]) -> SummaryNumbers
-    ensures { summary.ReadNumbers bytes.now blocks.old blocks.new result }
-{
-    summary::read(bytes, blocks).numbers()
 }
 
 // The text header of a RAW or DAT file.

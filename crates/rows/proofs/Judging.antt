@@ -12,10 +12,9 @@ use Rattle.rows.specs.declared.fault.Fault.{Fault}
 use Rattle.rows.specs.declared.fault.Fault.TheVariants.{BadTime, BadRow, BadList}
 use Rattle.rows.specs.declared.row.Row.{Row}
 use Rattle.rows.specs.declared.rules.Kind.{Kind}
-use Rattle.rows.specs.declared.rules.Judged.{Judged}
 use Rattle.rows.specs.declared.rules.Judged.TheVariants.{Time, Refused}
-use Rattle.rows.specs.Row.{All, time_of, room_of, row_from, rows_from, rows_of}
-use Rattle.rows.specs.Rules.{kind_of, good_as, good_row, judged_by, judged_as, judged_of, accepted, refused, verdict_then, verdict_by, good_length, verdict_on, in_order, verdict_from, verdict_of, in_any_order, Writable}
+use Rattle.rows.specs.Row.{time_of, room_of, row_from, rows_from, rows_of}
+use Rattle.rows.specs.Rules.{kind_of, good_as, good_row, judged_by, judged_as, judged_of, accepted, refused, verdict_then, verdict_from, good_length, verdict_of, Writable}
 use Rattle.rows.proofs.GoodRows.{and_first, and_second}
 
 -- a list whose length is good has whole rows, and not too many
@@ -109,7 +108,7 @@ no_refusal e = let z : ◌≡◌ {A = ℕ} 0 1 = cc in absurd (omega arith)
 module _ (writable : Row → Bool) where
   -- accepted: every row is good, writable and no earlier than the one before
   pub accepted_writable : (rs : List Row) (i last : ℕ) → verdict_from writable rs i last ≡ accepted → Writable writable last rs
-  unfolding verdict_by judged_of
+  unfolding verdict_from judged_of
   accepted_writable [] i last h = tt
   accepted_writable (r ∷ rs) i last h = go (λ k. accepted_writable rs (suc i) (time_of r) k) (good_row r) refl (writable r) refl (ltb (time_of r) last) refl
     where
@@ -121,83 +120,60 @@ module _ (writable : Row → Bool) where
       go ih false eg w ew b eb = no_refusal (simp eg at h)
 
   pub writable_accepted : (rs : List Row) (i last : ℕ) → Writable writable last rs → verdict_from writable rs i last ≡ accepted
-  unfolding verdict_by judged_of
+  unfolding verdict_from judged_of
   writable_accepted [] i last h = refl
   writable_accepted (r ∷ rs) i last h =
       simp (h.0, h.1, le-ltb (time_of r) last h.2) (writable_accepted rs (suc i) (time_of r) h.3)
 
--- in any order: every row passes the test
-module _ (test : Row → Bool) where
-  pub accepted_all : (rs : List Row) (i last : ℕ) → verdict_by (in_any_order test) rs i last ≡ accepted → All test rs
-  unfolding verdict_by
-  accepted_all [] i last h = tt
-  accepted_all (r ∷ rs) i last h = go (λ k. accepted_all rs (suc i) (time_of r) k) (test r) refl
-    where
-      go : (verdict_by (in_any_order test) rs (suc i) (time_of r) ≡ accepted → All test rs) → (t : Bool) → test r ≡ t → All test (r ∷ rs)
-      go ih true e = (e, ih (simp e at h))
-      go ih false e = no_refusal (simp e at h)
-
-  pub all_accepted : (rs : List Row) (i last : ℕ) → All test rs → verdict_by (in_any_order test) rs i last ≡ accepted
-  unfolding verdict_by
-  all_accepted [] i last h = refl
-  all_accepted (r ∷ rs) i last h = simp h.0 (all_accepted rs (suc i) (time_of r) h.1)
-
--- whatever a row gets after the time of the one before
-module _ (judged : Row → ℕ → Judged) where
   -- a whole list: 13, and then row by row
-  pub bad_list : (l : List ℕ) → good_length (length l) ≡ false → verdict_on judged l ≡ refused BadList 0
-  unfolding verdict_on
+  pub bad_list : (l : List ℕ) → good_length (length l) ≡ false → verdict_of writable l ≡ refused BadList 0
+  unfolding verdict_of
   bad_list l e = rw e
 
-  pub good_list : (l : List ℕ) → good_length (length l) ≡ true → verdict_on judged l ≡ verdict_by judged (rows_of l) 0 0
-  unfolding verdict_on
+  pub good_list : (l : List ℕ) → good_length (length l) ≡ true → verdict_of writable l ≡ verdict_from writable (rows_of l) 0 0
+  unfolding verdict_of
   good_list l e = rw e
 
-  pub accepted_rows : (l : List ℕ) → verdict_on judged l ≡ accepted → (good_length (length l) ≡ true) × (verdict_by judged (rows_of l) 0 0 ≡ accepted)
-  unfolding verdict_on
-  accepted_rows l h = go (good_length (length l)) refl h
+  pub accepted_list : (l : List ℕ) → verdict_of writable l ≡ accepted → (good_length (length l) ≡ true) × Writable writable 0 (rows_of l)
+  unfolding verdict_of
+  accepted_list l h = go (good_length (length l)) refl h
     where
-      go : (t : Bool) → good_length (length l) ≡ t → cond t (verdict_by judged (rows_of l) 0 0) (refused BadList 0) ≡ accepted
-          → (good_length (length l) ≡ true) × (verdict_by judged (rows_of l) 0 0 ≡ accepted)
-      go true e f = (e, f)
+      go : (t : Bool) → good_length (length l) ≡ t → cond t (verdict_from writable (rows_of l) 0 0) (refused BadList 0) ≡ accepted
+          → (good_length (length l) ≡ true) × Writable writable 0 (rows_of l)
+      go true e f = (e, accepted_writable (rows_of l) 0 0 f)
       go false e f = no_refusal f
 
   -- the invariant of a loop that judges row after row of l: i rows passed, the last at the time `last`
   pub record Judging (l : List ℕ) (i last : ℕ) : Type 0 where
-    pub same : verdict_by judged (rows_of l) 0 0 ≡ verdict_by judged (rows_from l i (room_of l - i)) i last
+    pub same : verdict_from writable (rows_of l) 0 0 ≡ verdict_from writable (rows_from l i (room_of l - i)) i last
     pub within : i ≤ room_of l
 
   pub judging_start : (l : List ℕ) → Judging l 0 0
   unfolding rows_of
   judging_start l =
       let e : room_of l ≡ room_of l - 0 = omega arith in
-      record { same = ap (λ (k : ℕ). verdict_by judged (rows_from l 0 k) 0 0) e; within = omega arith }
+      record { same = ap (λ (k : ℕ). verdict_from writable (rows_from l 0 k) 0 0) e; within = omega arith }
 
   module _ {l : List ℕ} {i last : ℕ} (h : Judging l i last) where
     -- all rows passed
-    pub judging_done : room_of l ≤ i → verdict_by judged (rows_of l) 0 0 ≡ accepted
-    unfolding rows_from verdict_by
+    pub judging_done : room_of l ≤ i → verdict_from writable (rows_of l) 0 0 ≡ accepted
+    unfolding rows_from verdict_from
     judging_done f =
         let e : room_of l - i ≡ 0 = omega arith in
-        h.same ∙ ap (λ (k : ℕ). verdict_by judged (rows_from l i k) i last) e
+        h.same ∙ ap (λ (k : ℕ). verdict_from writable (rows_from l i k) i last) e
 
     -- row i is judged
     module _ (f : i < room_of l) where
-      here : verdict_by judged (rows_of l) 0 0
-          ≡ verdict_then (judged (row_from l (i * 10)) last) i (verdict_by judged (rows_from l (suc i) (room_of l - suc i)) (suc i))
-      unfolding rows_from verdict_by
+      here : verdict_from writable (rows_of l) 0 0
+          ≡ verdict_then (judged_of (writable (row_from l (i * 10))) (row_from l (i * 10)) last) i (verdict_from writable (rows_from l (suc i) (room_of l - suc i)) (suc i))
+      unfolding rows_from verdict_from
       here =
           let e : room_of l - i ≡ suc (room_of l - suc i) = omega arith in
-          h.same ∙ ap (λ (k : ℕ). verdict_by judged (rows_from l i k) i last) e
+          h.same ∙ ap (λ (k : ℕ). verdict_from writable (rows_from l i k) i last) e
 
-      pub judging_next : {t : ℕ} → Time t ≡ judged (row_from l (i * 10)) last → Judging l (i + 1) t
+      pub judging_next : {t : ℕ} → Time t ≡ judged_of (writable (row_from l (i * 10))) (row_from l (i * 10)) last → Judging l (i + 1) t
       judging_next {t} e = rw (add-one i) (record { same = here ∙ rw (sym e); within = f })
 
-      pub judging_refused : {fault : Fault} → Refused fault ≡ judged (row_from l (i * 10)) last → verdict_by judged (rows_of l) 0 0 ≡ refused fault i
+      pub judging_refused : {fault : Fault} → Refused fault ≡ judged_of (writable (row_from l (i * 10))) (row_from l (i * 10)) last
+          → verdict_from writable (rows_of l) 0 0 ≡ refused fault i
       judging_refused e = here ∙ rw (sym e)
-
--- a list in order
-pub accepted_list : (writable : Row → Bool) (l : List ℕ) → verdict_of writable l ≡ accepted → (good_length (length l) ≡ true) × Writable writable 0 (rows_of l)
-accepted_list writable l h =
-    let both = accepted_rows (in_order writable) l h in
-    (both.0, accepted_writable writable (rows_of l) 0 0 both.1)

@@ -4,12 +4,12 @@ use Prim.Native.Nat.{◌-◌}
 use native.Mathlib.Omega.{arith}
 use lib.ListN.{length, drop, length-append, length-drop}
 use lib.Seq.{take-append_seam, drop-append_seam}
-use Rattle.rows.specs.declared.fault.Fault.TheVariants.{TooLong, NoRoom, Reserved, Cut, BadTime, Outside, Stray, BadHeader, BadPacket, ClockReset, BadRow, BadList, BadPicture, BadSummary}
+use Rattle.rows.specs.declared.fault.Fault.TheVariants.{TooLong, NoRoom, Reserved, Cut, BadTime, Outside, Stray, BadHeader, BadPacket, ClockReset, BadRow, BadList, BadPicture}
 use Rattle.rows.specs.Runs.{Ending, finished, refused, resume, and_then}
-use Rattle.rows.specs.Promises.{RowsOfFlat, FlatOfRows, OverKept, SevenUnused, KindsNamed, FiveRefused, CameraRefused, GoodTimely, MadeGood, GoodIsMade, VerdictWritable, VerdictAll, AndThenGrouped}
+use Rattle.rows.specs.Promises.{RowsOfFlat, FlatOfRows, OverKept, SevenUnused, KindsNamed, FiveRefused, CameraRefused, GoodTimely, MadeGood, GoodIsMade, VerdictWritable, AndThenGrouped}
 use Rattle.rows.proofs.GoodRows.{kind_named, named_kind, five_bad, camera_bad, timed_time, camera_good, trigger_good, counts_good, singles_good, special_good}
 use Rattle.rows.proofs.GoodRows as rules
-use Rattle.rows.proofs.Judging.{accepted_writable, writable_accepted, accepted_all, all_accepted}
+use Rattle.rows.proofs.Judging.{accepted_writable, writable_accepted}
 use Rattle.rows.proofs.Lists as lists
 use Rattle.rows.proofs.MadeRows.{good_made}
 use Rattle.rows.proofs.Sequence.{prepend_then}
@@ -42,7 +42,6 @@ seven_unused ClockReset e = omega arith
 seven_unused BadRow e = omega arith
 seven_unused BadList e = omega arith
 seven_unused BadPicture e = omega arith
-seven_unused BadSummary e = omega arith
 
 pub kinds_named : KindsNamed
 kinds_named n k = (kind_named n k, named_kind n k)
@@ -72,9 +71,6 @@ good_is_made = good_made
 
 pub verdict_writable : VerdictWritable
 verdict_writable writable rs i last = (accepted_writable writable rs i last, writable_accepted writable rs i last)
-
-pub verdict_all : VerdictAll
-verdict_all test rs i last = (accepted_all test rs i last, all_accepted test rs i last)
 
 pub and_then_grouped : AndThenGrouped
 and_then_grouped S T U r room f g = go r.ending

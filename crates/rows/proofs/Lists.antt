@@ -1,6 +1,6 @@
 -- The rows of a list of numbers, and the numbers of a list of rows.
 use mathlib.Core.Path.{◌≡◌, refl, sym, ◌∙◌, ap, ap₂}
-use Prim.Native.Nat.{ℕ, zero, suc, ◌+◌, ◌-◌, ◌*◌, ◌/◌, ◌%◌, ◌≤◌, ◌<◌, min}
+use Prim.Native.Nat.{ℕ, zero, suc, ◌+◌, ◌-◌, ◌*◌, ◌/◌, ◌%◌, ◌≤◌, ◌<◌}
 use native.Mathlib.Numerals.{add-one}
 use native.Mathlib.Omega.{arith}
 use native.Mathlib.Nat.{add_assoc}
@@ -86,39 +86,10 @@ rows_of_flat rs =
     ap (rows_from (flat rs) 0) n ∙ rows_flat rs
 
 -- a list has as many rows as it has room for, and in a slice the lower half of each time has 32 bits
-pub rows_length : (l : List ℕ) (n i : ℕ) → length (rows_from l i n) ≡ n
+rows_length : (l : List ℕ) (n i : ℕ) → length (rows_from l i n) ≡ n
 unfolding rows_from
 rows_length l zero i = refl
 rows_length l (suc n) i = ap suc (rows_length l n (suc i))
-
--- no rows, and a row before others; and of some rows the first, and the others
-pub rows_none : (l : List ℕ) (i : ℕ) → rows_from l i 0 ≡ []
-unfolding rows_from
-rows_none l i = refl
-
-pub rows_next : (l : List ℕ) (i n : ℕ) → rows_from l i (suc n) ≡ row_from l (i * 10) ∷ rows_from l (suc i) n
-unfolding rows_from
-rows_next l i n = refl
-
-pub rows_take : (l : List ℕ) (k n i : ℕ) → take k (rows_from l i n) ≡ rows_from l i (min k n)
-unfolding rows_from
-rows_take l zero n i = let e : 0 ≡ min 0 n = omega arith in ap (rows_from l i) e
-rows_take l (suc k) zero i = let e : 0 ≡ min (suc k) 0 = omega arith in ap (rows_from l i) e
-rows_take l (suc k) (suc n) i =
-    let e : suc (min k n) ≡ min (suc k) (suc n) = omega arith in
-    ap (λ (t : List Row). row_from l (i * 10) ∷ t) (rows_take l k n (suc i)) ∙ ap (rows_from l i) e
-
-pub rows_drop : (l : List ℕ) (k n i : ℕ) → drop k (rows_from l i n) ≡ rows_from l (i + min k n) (n - min k n)
-unfolding rows_from
-rows_drop l zero n i =
-    let e : i ≡ i + min 0 n = omega arith in
-    let f : n ≡ n - min 0 n = omega arith in
-    ap₂ (rows_from l) e f
-rows_drop l (suc k) zero i = let f : 0 ≡ 0 - min (suc k) 0 = omega arith in ap (rows_from l (i + min (suc k) 0)) f
-rows_drop l (suc k) (suc n) i =
-    let e : suc i + min k n ≡ i + min (suc k) (suc n) = omega arith in
-    let f : n - min k n ≡ suc n - min (suc k) (suc n) = omega arith in
-    rows_drop l k n (suc i) ∙ ap₂ (rows_from l) e f
 
 pub rows_of_length : (l : List ℕ) → length (rows_of l) ≡ room_of l
 unfolding rows_of

@@ -1,7 +1,7 @@
 -- The number of each refusal, and the numbers that an answer stands for.
 use Rattle.std.specs.Prelude.{ℕ}
 use Rattle.rows.specs.declared.fault.Fault.{Fault}
-use Rattle.rows.specs.declared.fault.Fault.TheVariants.{TooLong, NoRoom, Reserved, Cut, BadTime, Outside, Stray, BadHeader, BadPacket, ClockReset, BadRow, BadList, BadPicture, BadSummary}
+use Rattle.rows.specs.declared.fault.Fault.TheVariants.{TooLong, NoRoom, Reserved, Cut, BadTime, Outside, Stray, BadHeader, BadPacket, ClockReset, BadRow, BadList, BadPicture}
 use Rattle.rows.specs.declared.fault.Reading.{Reading}
 use Rattle.rows.specs.declared.fault.Reading.TheVariants as reading
 use Rattle.rows.specs.declared.fault.ReadingNumbers.{ReadingNumbers}
@@ -24,15 +24,13 @@ number_of ClockReset = 11
 number_of BadRow = 12
 number_of BadList = 13
 number_of BadPicture = 14
--- 02, R-6
-number_of BadSummary = 17
 
 -- 01, "Refusal numbers": a reader's refusal gives number, finished rows and place; refusal 0 stands for none
 abbrev pub reading_numbers : Reading → ReadingNumbers
 reading_numbers (reading.Finished n) = record { refusal = 0; rows = n; place = 0 }
 reading_numbers (reading.Refused f n place) = record { refusal = number_of f; rows = n; place = place }
 
--- 01, "Refusal numbers" and "Spelling": a writer answers the number of words (or bytes: 02, R-6), or a refusal's number and the row's index
+-- 01, "Refusal numbers" and "Spelling": a writer answers the number of words, or a refusal's number and the row's index
 abbrev pub writing_numbers : Writing → WritingNumbers
 writing_numbers (writing.Written n) = record { refusal = 0; count = n }
 writing_numbers (writing.Refused f row) = record { refusal = number_of f; count = row }

@@ -1,12 +1,12 @@
 -- The laws of this crate, each proved in proofs/Kept.antt under the name in lower case.
-use Rattle.std.specs.Prelude.{◌≡◌, ℕ, ◌%◌, ◌≤◌, ◌<◌, Bool, true, false, ◌⊎◌, List, length, take, drop}
+use Rattle.std.specs.Prelude.{◌≡◌, ℕ, ◌%◌, ◌≤◌, ◌<◌, Bool, true, false, ◌⊎◌, List, length, take, drop, T}
 use Rattle.rows.specs.declared.fault.Fault.{Fault}
 use Rattle.rows.specs.declared.row.Row.{Row}
 use Rattle.rows.specs.declared.rules.Kind.{Kind}
 use Rattle.rows.specs.declared.rules.Kind.TheVariants.{Pixel, Trigger, ImuCounts, ImuSingles, Special, Other}
 use Rattle.rows.specs.Fault.{number_of}
-use Rattle.rows.specs.Row.{flat, over, All, time_of, rows_of, timed, camera_row, trigger_row, counts_row, singles_row, special_row}
-use Rattle.rows.specs.Rules.{kind_of, good_row, accepted, verdict_by, verdict_from, in_any_order, Writable}
+use Rattle.rows.specs.Row.{flat, over, time_of, rows_of, timed, camera_row, trigger_row, counts_row, singles_row, special_row}
+use Rattle.rows.specs.Rules.{kind_of, good_row, accepted, verdict_from, Writable}
 use Rattle.rows.specs.Runs.{Run, and_then}
 
 -- rows and their numbers are the same thing: one is found again from the other
@@ -78,11 +78,6 @@ GoodIsMade = (r : Row) → good_row r ≡ true → r.low < 4294967296 → GoodMa
 abbrev pub VerdictWritable : Type 0
 VerdictWritable = (writable : Row → Bool) (rs : List Row) (i last : ℕ)
     → ((verdict_from writable rs i last ≡ accepted) → Writable writable last rs) × (Writable writable last rs → verdict_from writable rs i last ≡ accepted)
-
--- 02, R-6: in any order of time a list passes row by row exactly where each of its rows passes the test
-abbrev pub VerdictAll : Type 0
-VerdictAll = (test : Row → Bool) (rs : List Row) (i last : ℕ)
-    → ((verdict_by (in_any_order test) rs i last ≡ accepted) → All test rs) × (All test rs → verdict_by (in_any_order test) rs i last ≡ accepted)
 
 -- one run after another: the order of grouping does not matter
 abbrev pub AndThenGrouped : Type 1

@@ -87,32 +87,18 @@ abbrev pub verdict_then : Judged → ℕ → (ℕ → Verdict) → Verdict
 verdict_then (Time t) i rest = rest t
 verdict_then (Refused f) i rest = refused f i
 
--- the rows from index i on, after a last time; `judged` is what one row gets after the time of the row before it
-unfoldable pub verdict_by : (Row → ℕ → Judged) → List Row → ℕ → ℕ → Verdict
-verdict_by judged [] i last = accepted
-verdict_by judged (r ∷ rs) i last = verdict_then (judged r last) i (verdict_by judged rs (suc i))
+-- the rows from index i on, after a last time; `writable` is what a format can write
+unfoldable pub verdict_from : (Row → Bool) → List Row → ℕ → ℕ → Verdict
+verdict_from writable [] i last = accepted
+verdict_from writable (r ∷ rs) i last = verdict_then (judged_of (writable r) r last) i (verdict_from writable rs (suc i))
 
 -- a list length that is a multiple of ten, and at most 16,777,216 rows
 unfoldable pub good_length : ℕ → Bool
 good_length n = eqb (n % 10) 0 && leb (n / 10) 16777216
 
--- 13 first, then row by row
-unfoldable pub verdict_on : (Row → ℕ → Judged) → List ℕ → Verdict
-verdict_on judged l = cond (good_length (length l)) (verdict_by judged (rows_of l) 0 0) (refused BadList 0)
-
--- a list in the order of time, each row 12 or 5; `writable` is what a format can write
-abbrev pub in_order : (Row → Bool) → Row → ℕ → Judged
-in_order writable r last = judged_of (writable r) r last
-
-abbrev pub verdict_from : (Row → Bool) → List Row → ℕ → ℕ → Verdict
-verdict_from writable = verdict_by (in_order writable)
-
-abbrev pub verdict_of : (Row → Bool) → List ℕ → Verdict
-verdict_of writable = verdict_on (in_order writable)
-
--- a list in any order, each row 12 where it does not pass a test
-abbrev pub in_any_order : (Row → Bool) → Row → ℕ → Judged
-in_any_order test r last = cond (test r) (Time (time_of r)) (Refused BadRow)
+-- 13 first, then row by row 12 or 5
+unfoldable pub verdict_of : (Row → Bool) → List ℕ → Verdict
+verdict_of writable l = cond (good_length (length l)) (verdict_from writable (rows_of l) 0 0) (refused BadList 0)
 
 -- 01, "Spelling": good rows that the format can write, times not decreasing
 abbrev pub Writable : (Row → Bool) → ℕ → List Row → Type 0

@@ -31,8 +31,6 @@ pub enum Fault {
     BadList,
     // 14: the picture size that the caller asks for.
     BadPicture,
-    // 17: a bad summary.
-    BadSummary,
 }
 
 // What a reader answers. The rows are those finished before the fault, the place a byte of the input.
@@ -48,7 +46,7 @@ pub enum Reading {
     },
 }
 
-// What a writer answers: the words or bytes written, or the index of the first bad row.
+// What a writer answers: the words written, or the index of the first bad row.
 #[derive(Clone, Copy)]
 pub enum Writing {
     Written { count: usize },
@@ -64,7 +62,7 @@ pub struct ReadingNumbers {
     pub place: u64,
 }
 
-// A writer's answer as two numbers: refusal 0 and the words or bytes written, or the refusal and the row's index.
+// A writer's answer as two numbers: refusal 0 and the words written, or the refusal and the row's index.
 #[repr(C)]
 #[derive(Clone, Copy)]
 pub struct WritingNumbers {
@@ -91,7 +89,6 @@ impl Fault {
             Fault::BadRow => 12,
             Fault::BadList => 13,
             Fault::BadPicture => 14,
-            Fault::BadSummary => 17,
         }
     }
 }

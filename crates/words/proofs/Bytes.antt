@@ -32,7 +32,7 @@ stored_four l at w =
     rw (e₁, e₂, e₃, b₂, b₃)
 
 -- a word's bytes make the word
-pub value_bytes : (k w : ℕ) → w < 256 ^ k → value (bytes_of k w) ≡ w
+value_bytes : (k w : ℕ) → w < 256 ^ k → value (bytes_of k w) ≡ w
 unfolding bytes_of
 value_bytes zero w h = omega arith
 value_bytes (suc k) w h =

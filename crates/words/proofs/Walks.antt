@@ -9,7 +9,7 @@ use Rattle.rows.specs.declared.fault.Fault.{Fault}
 use Rattle.rows.specs.declared.row.Row.{Row}
 use Rattle.rows.specs.declared.rules.Judged.TheVariants.{Time, Refused}
 use Rattle.rows.specs.Row.{room_of, row_from, rows_of}
-use Rattle.rows.specs.Rules.{accepted, refused, judged_of, in_order, verdict_from}
+use Rattle.rows.specs.Rules.{accepted, refused, judged_of, verdict_from}
 use Rattle.rows.proofs.Judging.{Judging, judging_start, judging_done, judging_next, judging_refused}
 use Rattle.rows.proofs.Lists.{rest, rest_none, rest_more, rest_all}
 use Rattle.words.specs.Writer.{PutWords}
@@ -37,25 +37,25 @@ module _ {W : Type 0} (k : Walk W) where
 
   -- the loop that judges rows and counts their words: i rows passed, the last at the time `last`
   pub record Counting (writable : Row → Bool) (start : W) (l : List ℕ) (words : ℕ) (w : W) (last i : ℕ) : Type 0 where
-    pub judging : Judging (in_order writable) l i last
+    pub judging : Judging writable l i last
     pub total : length (walked k start (rows_of l)) ≡ words + length (walked k w (rest l i))
 
   pub counting_start : (writable : Row → Bool) (start : W) (l : List ℕ) → Counting writable start l 0 start 0 0
   counting_start writable start l =
-      record { judging = judging_start (in_order writable) l; total = omega (arith, ap (λ (rs : List Row). length (walked k start rs)) (rest_all l)) }
+      record { judging = judging_start writable l; total = omega (arith, ap (λ (rs : List Row). length (walked k start rs)) (rest_all l)) }
 
   module _ {writable : Row → Bool} {start : W} {l : List ℕ} {words : ℕ} {w : W} {last i : ℕ} (h : Counting writable start l words w last i) where
     pub counting_done : room_of l ≤ i → (verdict_from writable (rows_of l) 0 0 ≡ accepted) × (length (walked k start (rows_of l)) ≡ words + length (k.close w))
-    counting_done f = (judging_done (in_order writable) h.judging f, omega (arith, h.total, ap (λ (ws : List ℕ). length ws) (none_left l w i f)))
+    counting_done f = (judging_done writable h.judging f, omega (arith, h.total, ap (λ (ws : List ℕ). length ws) (none_left l w i f)))
 
     module _ {r : Row} (f : i < room_of l) (e : r ≡ row_from l (i * 10)) where
       pub counting_refused : {fault : Fault} → Refused fault ≡ judged_of (writable r) r last → verdict_from writable (rows_of l) 0 0 ≡ refused fault i
-      counting_refused {fault} g = judging_refused (in_order writable) h.judging f (subst (λ (q : Row). Refused fault ≡ judged_of (writable q) q last) e g)
+      counting_refused {fault} g = judging_refused writable h.judging f (subst (λ (q : Row). Refused fault ≡ judged_of (writable q) q last) e g)
 
       pub counting_next : {t n : ℕ} → Time t ≡ judged_of (writable r) r last → n ≡ length (k.words w r) → Counting writable start l (words + n) (k.next w r) t (i + 1)
       counting_next {t} {n} g p =
           record {
-            judging = judging_next (in_order writable) h.judging f (subst (λ (q : Row). Time t ≡ judged_of (writable q) q last) e g);
+            judging = judging_next writable h.judging f (subst (λ (q : Row). Time t ≡ judged_of (writable q) q last) e g);
             total = omega (arith, h.total, ap (λ (ws : List ℕ). length ws) (more_left l w i f e), length-append (k.words w r) (walked k (k.next w r) (rest l (i + 1))));
           }
 

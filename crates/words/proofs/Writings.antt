@@ -1,62 +1,93 @@
--- What a writer of words answers, case by case, once its rows were judged and their words counted.
-use mathlib.Core.Path.{◌≡◌}
+-- What a writer answers, case by case, once its rows were judged and their words counted.
+use mathlib.Core.Path.{◌≡◌, refl, sym, ◌∙◌, ap}
 use Prim.Native.Nat.{ℕ, ◌*◌, ◌≤◌, ◌<◌}
 use native.Mathlib.Omega.{arith}
-use mathlib.Core.Bool.{true, false}
+use mathlib.Core.Bool.{Bool, true, false, cond}
 use mathlib.Core.List.{List}
 use lib.ListN.{length}
 use lib.Seq.{sets}
+use lib.Dec.{leb}
+use borrow.Author.Tests.{le-leb, lt-leb, leb-false}
 use Rattle.rows.specs.declared.fault.Fault.{Fault}
 use Rattle.rows.specs.declared.fault.Fault.TheVariants.{NoRoom, BadList}
 use Rattle.rows.specs.declared.fault.Writing.{Writing}
 use Rattle.rows.specs.declared.fault.Writing.TheVariants.{Written, Refused}
+use Rattle.rows.specs.declared.fault.WritingNumbers.{WritingNumbers}
+use Rattle.rows.specs.Fault.{writing_numbers}
 use Rattle.rows.specs.Row.{rows_of}
-use Rattle.rows.specs.Rules.{accepted, in_order, verdict_from, good_length, verdict_of}
-use Rattle.rows.specs.Writers.{writing_of}
-use Rattle.rows.proofs.Writers as writers
+use Rattle.rows.specs.Rules.{Verdict, accepted, refused, verdict_from, good_length, verdict_of}
+use Rattle.rows.proofs.Judging.{bad_list, good_list}
+use Rattle.rows.proofs.Stored.{sets_over}
 use Rattle.words.specs.Words.{bytes_of_all}
-use Rattle.words.specs.Writer.{Spelling, spelled, WroteAs}
+use Rattle.words.specs.Writer.{Spelling, spelled, writing_verdict, writing_of, WroteAs, WroteNumbers}
 use Rattle.words.specs.Promises.{RoomExact}
 use Rattle.words.proofs.Writes.{all_length}
 
+-- what an answer of `writing_of` says of the verdict
+same_written : (v : Verdict) {n m : ℕ} → Written n ≡ writing_of v m → (v ≡ accepted) × (n ≡ m)
+same_written accepted e = (refl, cc)
+same_written (refused f i) e = let z : ◌≡◌ {A = ℕ} 0 1 = cc in absurd (omega arith)
+
+same_refused : (v : Verdict) (m : ℕ) {f : Fault} {i : ℕ} → Refused f i ≡ writing_of v m → v ≡ refused f i
+same_refused accepted m e = let z : ◌≡◌ {A = ℕ} 0 1 = cc in absurd (omega arith)
+same_refused (refused g j) m e = cc
+
 module _ (s : Spelling) (l old : List ℕ) where
-  abbrev words : ℕ
-  words = length (spelled s l)
+  -- the answer and the buffer of each verdict
+  as_refused : {f : Fault} {i : ℕ} → writing_verdict s l (length old) ≡ refused f i → WroteAs s l old old (Refused f i)
+  as_refused e = record { answer = rw e; wrote = rw e }
 
-  abbrev needed : ℕ
-  needed = words * s.size
-
-  abbrev bytes : List ℕ
-  bytes = bytes_of_all s.size (spelled s l)
+  as_accepted : {new : List ℕ} → writing_verdict s l (length old) ≡ accepted → length (spelled s l) * s.size ≤ length old
+      → new ≡ sets old 0 (bytes_of_all s.size (spelled s l)) → WroteAs s l old new (Written (length (spelled s l)))
+  as_accepted e f g =
+      record {
+        answer = rw e;
+        wrote = rw e (g ∙ sets_over (bytes_of_all s.size (spelled s l)) old (omega (arith, all_length s.size (spelled s l))));
+      }
 
   -- the list's length is refused
   pub wrote_bad_list : good_length (length l) ≡ false → WroteAs s l old old (Refused BadList 0)
-  wrote_bad_list e = writers.wrote_bad_list (in_order s.writable) l needed words bytes old e
+  unfolding writing_verdict
+  wrote_bad_list e = as_refused (rw (bad_list s.writable l e))
 
   -- the rows were judged and their words counted
   module _ (good : good_length (length l) ≡ true) {counted : Writing} (is : counted ≡ writing_of (verdict_from s.writable (rows_of l) 0 0) (length (spelled s l))) where
+    judged : verdict_of s.writable l ≡ verdict_from s.writable (rows_of l) 0 0
+    judged = good_list s.writable l good
+
     pub wrote_refused : {f : Fault} {i : ℕ} → counted ≡ Refused f i → WroteAs s l old old (Refused f i)
-    wrote_refused e = writers.wrote_refused (in_order s.writable) l needed words bytes old good is e
+    unfolding writing_verdict
+    wrote_refused e = as_refused (rw (judged, same_refused (verdict_from s.writable (rows_of l) 0 0) (length (spelled s l)) (sym e ∙ is)))
 
     pub passed : {n : ℕ} → counted ≡ Written n → verdict_from s.writable (rows_of l) 0 0 ≡ accepted
-    passed e = writers.passed (in_order s.writable) l needed words bytes old good is e
+    passed e = (same_written (verdict_from s.writable (rows_of l) 0 0) (sym e ∙ is)).0
 
     pub word_count : {n : ℕ} → counted ≡ Written n → n ≡ length (spelled s l)
-    word_count e = writers.count_same (in_order s.writable) l needed words bytes old good is e
+    word_count e = (same_written (verdict_from s.writable (rows_of l) 0 0) (sym e ∙ is)).1
 
     pub wrote_full : {n : ℕ} → counted ≡ Written n → length old < n * s.size → WroteAs s l old old (Refused NoRoom 0)
-    wrote_full e f = writers.wrote_full (in_order s.writable) l needed words bytes old good is e (rw (word_count e) at f)
+    unfolding writing_verdict
+    wrote_full e f = as_refused (rw (judged, passed e, sym (word_count e), lt-leb _ _ f))
 
     pub wrote_all : {n : ℕ} {new : List ℕ} → counted ≡ Written n → n * s.size ≤ length old → new ≡ sets old 0 (bytes_of_all s.size (spelled s l)) → WroteAs s l old new (Written n)
-    wrote_all e f g =
-        writers.wrote_all (in_order s.writable) l needed words bytes old good is e (rw (word_count e) at f) (omega (arith, all_length s.size (spelled s l))) g
+    unfolding writing_verdict
+    wrote_all {n} e f g =
+        rw (word_count e) (as_accepted (rw (judged, passed e, sym (word_count e), le-leb _ _ f)) (rw (sym (word_count e)) f) g)
 
 -- a list that passes 13, 12 and 5 is refused where the buffer is shorter than its words, and there alone
 pub room_exact : (s : Spelling) (l : List ℕ) (bytes : ℕ) → verdict_of s.writable l ≡ accepted → RoomExact s l bytes
+unfolding writing_verdict
 room_exact s l bytes e =
-    let needed : ℕ = length (spelled s l) * s.size in
     record {
-      short = writers.room_short (in_order s.writable) l needed bytes e;
-      only = writers.room_only (in_order s.writable) l needed bytes e;
-      long = writers.room_long (in_order s.writable) l needed bytes e;
+      short = λ h. rw (e, lt-leb _ _ h);
+      only = λ h. only (leb (length (spelled s l) * s.size) bytes) refl (sym (rw e) ∙ h);
+      long = λ h. rw (e, le-leb _ _ h);
     }
+  where
+    only : (t : Bool) → leb (length (spelled s l) * s.size) bytes ≡ t → cond t accepted (refused NoRoom 0) ≡ refused NoRoom 0 → bytes < length (spelled s l) * s.size
+    only true f g = let z : ◌≡◌ {A = ℕ} 0 1 = cc in absurd (omega arith)
+    only false f g = leb-false _ _ f
+
+-- the same answer as numbers
+pub writes_numbers : {s : Spelling} {l old new : List ℕ} {r : Writing} {n : WritingNumbers} → WroteAs s l old new r → n ≡ writing_numbers r → WroteNumbers s l old new n
+writes_numbers h e = record { answer = e ∙ ap writing_numbers h.answer; wrote = h.wrote }

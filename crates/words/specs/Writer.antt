@@ -1,12 +1,14 @@
 -- Writers of words, over any format: what a list of rows is written as, and what is refused. 01, "Refusal numbers" and "Spelling".
-use Rattle.std.specs.Prelude.{◌≡◌, ℕ, ◌+◌, ◌*◌, Bool, List, length}
+use Rattle.std.specs.Prelude.{◌≡◌, ℕ, ◌+◌, ◌*◌, Bool, cond, List, length, leb}
 use Rattle.std.proofs.lemmas.List.Edits.{sets}
+use Rattle.rows.specs.declared.fault.Fault.TheVariants.{NoRoom}
 use Rattle.rows.specs.declared.fault.Writing.{Writing}
+use Rattle.rows.specs.declared.fault.Writing.TheVariants.{Written, Refused}
 use Rattle.rows.specs.declared.fault.WritingNumbers.{WritingNumbers}
 use Rattle.rows.specs.declared.row.Row.{Row}
-use Rattle.rows.specs.Row.{rows_of}
-use Rattle.rows.specs.Rules.{Verdict, in_order}
-use Rattle.rows.specs.Writers.{verdict_in, WroteBytes, WroteBytesNumbers}
+use Rattle.rows.specs.Fault.{writing_numbers}
+use Rattle.rows.specs.Row.{over, rows_of}
+use Rattle.rows.specs.Rules.{Verdict, accepted, refused, verdict_of}
 use Rattle.words.specs.Words.{bytes_of_all}
 
 -- a format that is written: the bytes of a word, the good rows that it has words for, and the words of rows ("spelling" is 01's term)
@@ -19,17 +21,38 @@ pub record Spelling : Type 0 where
 abbrev pub spelled : Spelling → List ℕ → List ℕ
 spelled s l = s.words (rows_of l)
 
--- the list's length is judged first (13), its rows one after the other (12, 5), and the room for its words last (2)
-abbrev pub writing_verdict : Spelling → List ℕ → ℕ → Verdict
-writing_verdict s l bytes = verdict_in (in_order s.writable) l (length (spelled s l) * s.size) bytes
+-- 2 where a buffer has fewer bytes than so many words take
+abbrev pub room_for : Spelling → ℕ → ℕ → Verdict
+room_for s words bytes = cond (leb (words * s.size) bytes) accepted (refused NoRoom 0)
 
--- a writer's promise, of every list and every buffer: it answers the number of words
-abbrev pub WroteAs : Spelling → (l old new : List ℕ) → Writing → Type 0
-WroteAs s l old new r = WroteBytes (writing_verdict s l (length old)) (length (spelled s l)) (bytes_of_all s.size (spelled s l)) old new r
+-- the first of two verdicts that refuses
+abbrev pub then_judged : Verdict → Verdict → Verdict
+then_judged accepted v = v
+then_judged (refused f i) v = refused f i
+
+-- the list's length is judged first (13), its rows one after the other (12, 5), and the room for its words last (2)
+unfoldable pub writing_verdict : Spelling → List ℕ → ℕ → Verdict
+writing_verdict s l bytes = then_judged (verdict_of s.writable l) (room_for s (length (spelled s l)) bytes)
+
+-- the answer to a verdict: the number of words, or the refusal and the row's index
+abbrev pub writing_of : Verdict → ℕ → Writing
+writing_of accepted words = Written words
+writing_of (refused f i) words = Refused f i
+
+-- what the buffer then holds: the bytes over its front, and all that it held where the list is refused
+abbrev pub written_over : Verdict → List ℕ → List ℕ → List ℕ
+written_over accepted bytes old = over bytes old
+written_over (refused f i) bytes old = old
+
+-- a writer's promise, of every list and every buffer
+pub record WroteAs (s : Spelling) (l old new : List ℕ) (r : Writing) : Type 0 where
+  pub answer : r ≡ writing_of (writing_verdict s l (length old)) (length (spelled s l))
+  pub wrote : new ≡ written_over (writing_verdict s l (length old)) (bytes_of_all s.size (spelled s l)) old
 
 -- the same promise of an answer as numbers
-abbrev pub WroteNumbers : Spelling → (l old new : List ℕ) → WritingNumbers → Type 0
-WroteNumbers s l old new r = WroteBytesNumbers (writing_verdict s l (length old)) (length (spelled s l)) (bytes_of_all s.size (spelled s l)) old new r
+pub record WroteNumbers (s : Spelling) (l old new : List ℕ) (r : WritingNumbers) : Type 0 where
+  pub answer : r ≡ writing_numbers (writing_of (writing_verdict s l (length old)) (length (spelled s l)))
+  pub wrote : new ≡ written_over (writing_verdict s l (length old)) (bytes_of_all s.size (spelled s l)) old
 
 -- the promise of a function that writes some of the words from a place on, where they fit, and answers the place after them
 pub record PutWords (size : ℕ) (ws : List ℕ) (old : List ℕ) (at : ℕ) (new : List ℕ) (r : ℕ) : Type 0 where

@@ -1,9 +1,9 @@
 //! What the command line asks for: which command, of which recording, with which options.
 use super::columns;
-use super::formats::{bare, capitals, in_raw_files, listed, names, suffix, suffixes, target_names, targets, Asked, Format, Head, Target, SUMMARY};
-use super::input::{name_of, unreadable};
-use super::names::{called, proposal, shown};
+use super::formats::{bare, capitals, in_raw_files, listed, names, names_written, suffix, suffixes, written, Asked, Format, Head, Words};
+use super::names::{proposal, shown};
 use super::options::{Given, Opt, Syntax};
+use super::recording::{name_of, unreadable};
 use super::rows::Lines;
 use super::selection::{self, Selection};
 use super::view::{self, View};
@@ -19,10 +19,6 @@ pub enum Request {
     Print(String),
     Info(Source, View),
     Rows(Source, View, Lines),
-    /// The summary of a recording's rows, and whether the names of its columns stand above it.
-    Summary(Source, Selection, bool),
-    /// The same of a stored summary.
-    Stored(OsString, bool),
     Convert(Source, Selection, Target, OsString),
 }
 
@@ -36,6 +32,9 @@ pub struct Source {
     /// Whether to do what is otherwise declined.
     pub force: bool,
 }
+
+/// The name of a format, and how it is written.
+pub type Target = (&'static str, &'static Words);
 
 struct Command {
     syntax: Syntax,
@@ -51,38 +50,25 @@ const SOURCE: &[Opt] = &[
     Opt { name: "--force", values: &[] },
 ];
 
-const LINES: &[Opt] = &[Opt { name: "--events", values: &[] }, Opt { name: "--columns", values: &["NAMES"] }];
+const LINES: &[Opt] = &[Opt { name: "--events", values: &[] }, Opt { name: "--columns", values: &["NAMES"] }, Opt { name: "--header", values: &[] }];
 
-const HEADER: &[Opt] = &[Opt { name: "--header", values: &[] }];
+const TO: &[Opt] = &[Opt { name: "--to", values: &["WORDS"] }];
 
-const TO: &[Opt] = &[Opt { name: "--to", values: &["TARGET"] }];
-
-const COMMANDS: [Command; 5] = [
+const COMMANDS: [Command; 4] = [
     Command {
         syntax: Syntax { name: "info", arguments: &["FILE"], options: &[SOURCE, join::OPTIONS, selection::OPTIONS, view::OPTIONS] },
         help: help::info,
         request: |given| {
             let view = View::given(&given)?;
-            Ok(Request::Info(source(&given, None)?, view))
+            Ok(Request::Info(source(&given)?, view))
         },
     },
     Command {
-        syntax: Syntax { name: "rows", arguments: &["FILE"], options: &[SOURCE, join::OPTIONS, selection::OPTIONS, view::OPTIONS, LINES, HEADER] },
+        syntax: Syntax { name: "rows", arguments: &["FILE"], options: &[SOURCE, join::OPTIONS, selection::OPTIONS, view::OPTIONS, LINES] },
         help: help::rows,
         request: |given| {
             let (view, lines) = (View::given(&given)?, lines(&given)?);
-            Ok(Request::Rows(source(&given, None)?, view, lines))
-        },
-    },
-    Command {
-        syntax: Syntax { name: "summary", arguments: &["FILE"], options: &[SOURCE, selection::OPTIONS, HEADER] },
-        help: help::summary,
-        request: |given| match is_stored(&given) {
-            true => Ok(Request::Stored(stored(&given)?, given.has("--header"))),
-            false => {
-                let selection = Selection::given(&given)?;
-                Ok(Request::Summary(source(&given, Some(SUMMARY.0))?, selection, given.has("--header")))
-            }
+            Ok(Request::Rows(source(&given)?, view, lines))
         },
     },
     Command {
@@ -90,8 +76,8 @@ const COMMANDS: [Command; 5] = [
         help: help::convert,
         request: |given| {
             let (selection, target) = (Selection::given(&given)?, target(&given)?);
-            let out = out(&given, target)?;
-            Ok(Request::Convert(source(&given, None)?, selection, target, out))
+            let out = out(&given, target.0)?;
+            Ok(Request::Convert(source(&given)?, selection, target, out))
         },
     },
     Command {
@@ -141,39 +127,21 @@ impl Command {
     }
 }
 
-/// The recording that the first argument names. What the command reads beside recordings is named among their formats.
-fn source(given: &Given, beside: Option<&'static str>) -> Result<Source, Failure> {
+/// The recording that the first argument names.
+fn source(given: &Given) -> Result<Source, Failure> {
     let path = given.arguments[0].clone();
-    if is_stored(given) {
-        return Err(format!("{} is a stored summary, which holds no events: use {} summary", name_of(&path), called()).into());
-    }
     let asked = Asked { width: side(given, "--width")?, height: side(given, "--height")? };
     let format = match given.value("--format") {
-        Some(name) => Format::named(name).ok_or_else(|| no_format(name, beside))?,
+        Some(name) => Format::named(name).ok_or_else(|| no_format(name))?,
         None => match Format::by_suffix(&path) {
             Some(format) => format,
-            None => return Err(unknown_format(&path, beside)),
+            None => return Err(unknown_format(&path)),
         },
     };
     if format.head != Head::None && (asked.width.is_some() || asked.height.is_some()) {
         return Err(format!("--width and --height go with {} alone: {PICTURES}", listed(bare(), "--format ", "and")).into());
     }
     Ok(Source { path, format, asked, join: join::given(given, format)?, force: given.has("--force") })
-}
-
-/// Whether the first argument is a stored summary: by the format that is named, or else by its suffix.
-fn is_stored(given: &Given) -> bool {
-    let suffix = suffix(&given.arguments[0]);
-    given.value("--format").or(suffix.as_deref()).is_some_and(|name| name.eq_ignore_ascii_case(SUMMARY.0))
-}
-
-/// The stored summary that the first argument names.
-fn stored(given: &Given) -> Result<OsString, String> {
-    let mut unfit = ["--width", "--height"].into_iter().chain(selection::OPTIONS.iter().map(|option| option.name));
-    match unfit.find(|name| given.has(name)) {
-        Some(name) => Err(format!("{name} goes with a recording alone: a stored summary holds no events")),
-        None => Ok(given.arguments[0].clone()),
-    }
 }
 
 /// The pixels of a side.
@@ -188,19 +156,17 @@ fn side(given: &Given, name: &str) -> Result<Option<u32>, String> {
 const PICTURES: &str = "a RAW or DAT file says its picture itself, and an AEDAT file has none";
 
 /// What to name for a format.
-fn naming(beside: Option<&'static str>) -> String {
-    format!("name {}", listed(names().chain(beside), "", "or"))
+fn naming() -> String {
+    format!("name {}", listed(names(), "", "or"))
 }
 
 /// What is said of a name that is no format's.
-fn no_format(name: &str, beside: Option<&'static str>) -> String {
+fn no_format(name: &str) -> String {
     let small = name.to_ascii_lowercase().replace([' ', '-', '.', '_'], "");
     let unread = UNREAD.iter().find(|(names, _)| names.contains(&small.as_str()));
     match unread {
         Some((_, title)) => format!("--format {}: {}", shown(name), claims::unread(title)),
-        None => {
-            format!("--format {}: there is no such format; {}{}", shown(name), naming(beside), proposal(&small, names().chain(beside)))
-        }
+        None => format!("--format {}: there is no such format; {}{}", shown(name), naming(), proposal(&small, names())),
     }
 }
 
@@ -214,11 +180,11 @@ const UNREAD: [(&[&str], &str); 5] = [
 ];
 
 /// How to name a format that the file's name does not tell. What the file itself says is quoted, and the format still left to be named.
-fn unknown_format(path: &OsStr, beside: Option<&'static str>) -> Failure {
+fn unknown_format(path: &OsStr) -> Failure {
     let name = name_of(path);
     match first_bytes(path) {
         Ok(bytes) => {
-            let told = claims::foremost(&bytes).map_or_else(|| by_name(path, beside), |claim| claim.proposed());
+            let told = claims::foremost(&bytes).map_or_else(|| by_name(path), |claim| claim.proposed());
             format!("{name}: its format is needed; {told}").into()
         }
         Err(error) => unreadable(&name, &error),
@@ -235,7 +201,7 @@ fn first_bytes(path: &OsStr) -> io::Result<Vec<u8>> {
 }
 
 /// What the name of a file leaves to be said of its format.
-fn by_name(path: &OsStr, beside: Option<&'static str>) -> String {
+fn by_name(path: &OsStr) -> String {
     let words = bare().find(|name| suffix(path).as_deref() == Some(name));
     match (suffix(path).as_deref(), words) {
         (Some("raw"), _) => format!(
@@ -244,7 +210,7 @@ fn by_name(path: &OsStr, beside: Option<&'static str>) -> String {
             listed(in_raw_files(), "--format raw-", "or")
         ),
         (_, Some(words)) => format!("if it is what its name says, add --format {words}"),
-        _ => format!("{} (only names that end in {} tell it)", naming(beside), listed(suffixes().chain(beside), ".", "or")),
+        _ => format!("{} (only names that end in {} tell it)", naming(), listed(suffixes(), ".", "or")),
     }
 }
 
@@ -266,20 +232,19 @@ fn lines(given: &Given) -> Result<Lines, String> {
 
 fn target(given: &Given) -> Result<Target, String> {
     let Some(to) = given.value("--to") else {
-        return Err(format!("convert needs {}", listed(target_names(), "--to ", "or")));
+        return Err(format!("convert needs {}", listed(names_written(), "--to ", "or")));
     };
-    let unknown =
-        || format!("--to {}: nothing of this name is written; name {}{}", shown(to), listed(target_names(), "", "or"), proposal(to, target_names()));
-    targets().find(|(name, _)| name.eq_ignore_ascii_case(to)).ok_or_else(unknown)
+    let unknown = || format!("--to {}: there are no such words; name {}", shown(to), listed(names_written(), "", "or"));
+    written().find(|(name, _)| name.eq_ignore_ascii_case(to)).ok_or_else(unknown)
 }
 
-/// The file to write. Its name must not tell anything else than it holds.
-fn out(given: &Given, (to, writing): Target) -> Result<OsString, String> {
+/// The file to write. Its name must not tell another format than it has.
+fn out(given: &Given, to: &str) -> Result<OsString, String> {
     let path = &given.arguments[1];
     let suffix = suffix(path);
     let tells = |name: &str| suffix.as_deref() == Some(name);
-    match names().chain(["raw"]).chain(target_names()).find(|name| *name != to && tells(name)) {
-        Some(_) => Err(format!("{}: by this name {to} {} would later be taken for something else; end it in .{to}", shown(path), writing.parts)),
+    match names().chain(["raw"]).find(|name| *name != to && tells(name)) {
+        Some(_) => Err(format!("{}: by this name {to} words would later be taken for something else; end it in .{to}", shown(path))),
         None => Ok(path.clone()),
     }
 }

@@ -1,9 +1,8 @@
-//! The formats that a recording can have, and what its rows can be written as. What the command knows of one stands in its entry, and nowhere else.
+//! The formats that a recording can have. What the command knows of a format stands in its entry of the table, and nowhere else.
 use super::claims::Says;
 use fryskelom::{
-    blocks_of, most_rows_aedat, most_rows_dat, most_rows_evt2, most_rows_evt3, most_words_evt2, most_words_evt3, read_aedat, read_dat, read_evt2,
-    read_evt3, read_raw_evt2, read_raw_evt3, summary_bytes, whole_evt3, write_evt2, write_evt3, write_summary, Fault, RowFault, DAT_SIDE, EVT3_WRAP,
-    EVT_SIDE,
+    most_rows_aedat, most_rows_dat, most_rows_evt2, most_rows_evt3, most_words_evt2, most_words_evt3, read_aedat, read_dat, read_evt2, read_evt3,
+    read_raw_evt2, read_raw_evt3, whole_evt3, write_evt2, write_evt3, Fault, RowFault, DAT_SIDE, EVT3_WRAP, EVT_SIDE,
 };
 use std::ffi::OsStr;
 use std::fmt::Display;
@@ -32,7 +31,7 @@ pub struct Format {
     /// How its words are read from one of them on, where that is possible.
     pub part_way: Option<PartWay>,
     /// How it is written, where it is.
-    writing: Option<Writing>,
+    words: Option<Words>,
 }
 
 /// Words that can be read from any of them on.
@@ -70,26 +69,17 @@ fn side(asked: Option<u32>) -> u32 {
     asked.unwrap_or(EVT_SIDE)
 }
 
-/// How rows are written.
-pub struct Writing {
+/// How a format of bare words is written.
+pub struct Words {
     /// What the help says of the rows that it holds.
     pub holds: &'static str,
-    /// What it is made of. After its name it is what messages call it.
-    pub parts: &'static str,
-    /// How many of these there are, by the rows that were written and the number that the library answers.
-    pub count: fn(usize, usize) -> usize,
-    /// The bytes of what the library counts: those of a word, or 1.
+    /// The bytes of a word.
     pub size: usize,
-    /// As many of these as are always enough for so many rows, the last of them at this time.
+    /// As many words as are always enough for so many rows, the last of them at this time.
     pub most: fn(usize, u64) -> usize,
     /// The library's writing.
     pub write: fn(&[u32], &mut [u8]) -> Result<usize, RowFault>,
-    /// The command that reads it, where those that read recordings do not.
-    pub reader: Option<&'static str>,
 }
-
-/// What `--to` can be: its name, and how it is written.
-pub type Target = (&'static str, &'static Writing);
 
 const WORDS: &str = "bare words, without a header";
 const RAW: &str = "a RAW file of such words";
@@ -112,14 +102,11 @@ pub const FORMATS: &[Format] = &[
         most_rows: most_rows_evt2,
         first_rows: most_rows_evt2,
         part_way: None,
-        writing: Some(Writing {
+        words: Some(Words {
             holds: "pixels of camera 0 alone, below 2048 by 2048, triggers of channels 0 to 31, IMU counts",
-            parts: "words",
-            count: |_, words| words,
             size: 4,
             most: |rows, _| most_words_evt2(rows),
             write: write_evt2,
-            reader: None,
         }),
     },
     Format {
@@ -134,14 +121,11 @@ pub const FORMATS: &[Format] = &[
         most_rows: most_rows_evt3,
         first_rows: |bytes| bytes / 2,
         part_way: Some(EVT3_PART_WAY),
-        writing: Some(Writing {
+        words: Some(Words {
             holds: "pixels of cameras 0 and 1, below 2048 by 2048, triggers of channels 0 to 15",
-            parts: "words",
-            count: |_, words| words,
             size: 2,
             most: most_words_evt3,
             write: write_evt3,
-            reader: None,
         }),
     },
     Format {
@@ -156,7 +140,7 @@ pub const FORMATS: &[Format] = &[
         most_rows: most_rows_evt2,
         first_rows: most_rows_evt2,
         part_way: None,
-        writing: None,
+        words: None,
     },
     Format {
         name: "raw-evt3",
@@ -170,7 +154,7 @@ pub const FORMATS: &[Format] = &[
         most_rows: most_rows_evt3,
         first_rows: |bytes| bytes / 2,
         part_way: Some(EVT3_PART_WAY),
-        writing: None,
+        words: None,
     },
     Format {
         name: "dat",
@@ -184,7 +168,7 @@ pub const FORMATS: &[Format] = &[
         most_rows: most_rows_dat,
         first_rows: most_rows_dat,
         part_way: None,
-        writing: None,
+        words: None,
     },
     Format {
         name: "aedat",
@@ -198,23 +182,9 @@ pub const FORMATS: &[Format] = &[
         most_rows: most_rows_aedat,
         first_rows: most_rows_aedat,
         part_way: None,
-        writing: None,
+        words: None,
     },
 ];
-
-/// What is stored beside a recording, and is none: its name, which is also that of `--format` and the suffix that tells it, and how it is written.
-pub const SUMMARY: Target = (
-    "summary",
-    &Writing {
-        holds: "no rows, but of each 256 of them the first, last, smallest and largest time and how many there are of each kind",
-        parts: "blocks",
-        count: |rows, _| blocks_of(rows),
-        size: 1,
-        most: |rows, _| summary_bytes(rows),
-        write: write_summary,
-        reader: Some("summary"),
-    },
-);
 
 impl Format {
     /// The format of a name of `--format`, in any letter case.
@@ -259,19 +229,14 @@ pub fn suffixes() -> impl Iterator<Item = &'static str> {
     FORMATS.iter().filter_map(|format| format.suffix)
 }
 
-/// The formats that are written.
-pub fn written() -> impl Iterator<Item = Target> {
-    FORMATS.iter().filter_map(|format| Some((format.name, format.writing.as_ref()?)))
+/// The formats that are written: the name of each, and how.
+pub fn written() -> impl Iterator<Item = (&'static str, &'static Words)> {
+    FORMATS.iter().filter_map(|format| Some((format.name, format.words.as_ref()?)))
 }
 
-/// All that is written.
-pub fn targets() -> impl Iterator<Item = Target> {
-    written().chain([SUMMARY])
-}
-
-/// The names of all that is written.
-pub fn target_names() -> impl Iterator<Item = &'static str> {
-    targets().map(|(name, _)| name)
+/// Their names.
+pub fn names_written() -> impl Iterator<Item = &'static str> {
+    written().map(|(name, _)| name)
 }
 
 /// Names in a sentence, each with the same before it: `.dat or .aedat`.

@@ -18,9 +18,9 @@ const MOST_LINES: usize = 1_000;
 pub fn lines(recording: &Recording, stop: Option<Stop>) -> Vec<String> {
     match recording.format.head {
         Head::None => of_words(recording.asked),
-        _ if recording.file.is_too_long() => vec!["header: not read, since the file is too long".to_string(), "picture: not known".to_string()],
-        Head::Text(side) => of_text(&recording.file.bytes, side),
-        Head::Aedat => of_aedat(&recording.file.bytes, stop),
+        _ if recording.is_too_long() => vec!["header: not read, since the file is too long".to_string(), "picture: not known".to_string()],
+        Head::Text(side) => of_text(&recording.bytes, side),
+        Head::Aedat => of_aedat(&recording.bytes, stop),
     }
 }
 
@@ -60,18 +60,18 @@ fn said(bytes: &[u8], limit: u32, header: Header) -> [bool; 2] {
 /// Tells which picture was taken where the header of a file does not say it whole. `info` says it among other things.
 pub fn note(recording: &Recording, progress: &Progress) {
     let Head::Text(limit) = recording.format.head else { return };
-    if recording.file.is_too_long() {
+    if recording.is_too_long() {
         return;
     }
-    let Ok(header) = read_header(&recording.file.bytes, limit) else { return };
-    let unsaid = match said(&recording.file.bytes, limit, header) {
+    let Ok(header) = read_header(&recording.bytes, limit) else { return };
+    let unsaid = match said(&recording.bytes, limit, header) {
         [true, true] => return,
         [false, true] => "width",
         [true, false] => "height",
         [false, false] => "width or height",
     };
     let Header { width, height, .. } = header;
-    progress.note(&format!("note: the header of {} gives no {unsaid}; a picture of {width} by {height} pixels was assumed", recording.file.name));
+    progress.note(&format!("note: the header of {} gives no {unsaid}; a picture of {width} by {height} pixels was assumed", recording.name));
 }
 
 /// The lines of an AEDAT file up to the end line. A fault in the header lies at the start of its line, so that those before are good.

@@ -1,7 +1,7 @@
 //! The help texts, in lines of at most 80 columns. What they say of the formats is taken from the table.
-use super::formats::{bare, joinable, listed, suffixes, target_names, targets, Format, FORMATS, SUMMARY};
+use super::formats::{bare, capitals, joinable, listed, names_written, suffixes, written, Format, FORMATS};
 use super::names::called;
-use super::{columns, selection, summary};
+use super::{columns, selection};
 
 /// The most columns of a line.
 const COLUMNS: usize = 80;
@@ -44,12 +44,12 @@ fn option(usage: &str, text: &str) -> String {
 const INDENT: usize = 20;
 
 pub fn short() -> String {
-    format!("usage: {} info FILE, rows FILE, summary FILE, {}, or refusals", called(), converting())
+    format!("usage: {} info FILE, rows FILE, {}, or refusals", called(), converting())
 }
 
 /// How `convert` is called.
 fn converting() -> String {
-    format!("convert IN OUT --to {}", target_names().collect::<Vec<_>>().join("|"))
+    format!("convert IN OUT --to {}", names_written().collect::<Vec<_>>().join("|"))
 }
 
 /// How a command is called, and what it does.
@@ -70,8 +70,7 @@ pub fn all() -> String {
         "Reads recordings of event cameras.\n\n".to_string(),
         command("info FILE", "what a recording holds: header, picture, numbers of events, times and triggers"),
         command("rows FILE", "its events, a line each, as numbers or in words; or how many there are in each bin of time"),
-        command("summary FILE", "its times and numbers of events, a line for each 256 events; or those of a summary that was stored"),
-        command(&converting(), "writes a recording anew as bare words, or stores its summary"),
+        command(&converting(), &format!("writes a recording anew as {} words", capitals(names_written()))),
         command("refusals", "why a recording is refused, by number, and what to do"),
         "\n".to_string(),
         paragraph("FILE and IN are files, or - for standard input. --help after a command lists its own options."),
@@ -222,46 +221,21 @@ pub fn rows() -> String {
     .concat()
 }
 
-pub fn summary() -> String {
-    let (name, _) = SUMMARY;
-    [
-        format!("{} summary FILE [options]\n\n", called()),
-        paragraph(&format!(
-            "Prints a line for each block of 256 rows, of which the last may have fewer. A line has twelve numbers: {}. row is the index of the block's first row, \
-             counted from 0, and rows how many it has. Then come the times of its first and its last row, its smallest and its largest time, and how many rows there \
-             are of each kind. There is no kind 5, and its number is always 0.",
-            listed(summary::COLUMNS.into_iter(), "", "and")
-        )),
-        option("--header", "the names of the columns in a first line"),
-        "\n".to_string(),
-        paragraph(&format!(
-            "FILE may also be a stored summary, which convert IN OUT --to {name} writes: one whose name ends in .{name}, or any with --format {name}. It holds no \
-             events, so that filters, --width and --height do not go with it.",
-        )),
-        COMBINED.to_string(),
-        filters(),
-        "\n".to_string(),
-        paragraph("If the recording is refused, the summary of the rows before is printed; the refusal follows on standard error, and the status is 1."),
-        recording(FORCED),
-    ]
-    .concat()
-}
-
 pub fn convert() -> String {
-    let held = targets().map(|(name, writing)| option(&format!("--to {name}"), &format!("holds {}", writing.holds)));
+    let held = written().map(|(name, words)| option(&format!("--to {name}"), &format!("holds {}", words.holds)));
     [
         format!("{} {} [options]\n\n", called(), converting()),
         paragraph(
-            "Reads the recording IN and writes its rows as bare words, without a header, or their summary to the file OUT, or to standard output where OUT is -. A \
-             file is written whole or not at all: where IN is refused or a row cannot be written, OUT stays as it was.",
+            "Reads the recording IN and writes its rows as bare words, without a header, to the file OUT, or to standard output where OUT is -. A file is \
+             written whole or not at all: where IN is refused or a row cannot be written, OUT stays as it was.",
         ),
         held.collect(),
         "\n".to_string(),
-        paragraph("There may be at most 16777216 rows, and for words they have to be in the order of time."),
+        paragraph("The rows have to be in the order of time, and at most 16777216."),
         COMBINED.to_string(),
         filters(),
         "\n".to_string(),
-        recording(&format!("replace OUT if it exists, unless it is write-protected, but never IN itself; write to a terminal; {FORCED}")),
+        recording(&format!("replace OUT if it exists, unless it is write-protected, but never IN itself; write words to a terminal; {FORCED}")),
     ]
     .concat()
 }

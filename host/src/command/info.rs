@@ -1,10 +1,9 @@
 //! `info`: what a recording holds.
 use super::arguments::Source;
 use super::events::{self, KINDS};
-use super::input::Input;
 use super::memory::Lack;
 use super::progress::Progress;
-use super::recording::{seconds, Reading, Recording};
+use super::recording::{seconds, Input, Reading, Recording};
 use super::view::{Item, Looked, View};
 use super::{header, output, Failure};
 use fryskelom::{kind, MOST_BYTES};
@@ -16,11 +15,11 @@ const TRIGGERS: usize = 100;
 /// Prints format, size, header, picture, events and times of a recording, and then its refusal.
 pub fn print(source: &Source, view: &View) -> Result<(), Failure> {
     let progress = Progress::new();
-    let recording = Recording::load(Input::open(&source.path)?, source, &progress)?;
+    let recording = Input::open(source)?.load(source, &progress)?;
     let reading = recording.read(&progress);
     progress.stage("counting", "rows");
     progress.done(reading.rows());
-    let lack = |lack: Lack| Failure::Failed(lack.message("triggers or bins", &recording.file.name, "nothing was counted"));
+    let lack = |lack: Lack| Failure::Failed(lack.message("triggers or bins", &recording.name, "nothing was counted"));
     let about_rows = about_rows(&recording, &reading, view).map_err(lack)?;
     let joined = recording.join.iter().flat_map(|join| join.lines(reading.stop)).collect();
     let lines = [about_file(&recording), header::lines(&recording, reading.stop), joined, about_rows].concat();
@@ -31,9 +30,9 @@ pub fn print(source: &Source, view: &View) -> Result<(), Failure> {
 
 fn about_file(recording: &Recording) -> Vec<String> {
     // where it is not known, no more was read
-    let size = recording.file.length.map_or(format!("over {MOST_BYTES}"), |length| length.to_string());
+    let size = recording.length.map_or(format!("over {MOST_BYTES}"), |length| length.to_string());
     vec![
-        format!("file: {}", recording.file.name),
+        format!("file: {}", recording.name),
         format!("format: {} ({})", recording.format.title, recording.format.name),
         format!("size: {size} bytes"),
     ]

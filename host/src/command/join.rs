@@ -42,9 +42,9 @@ fn is_word(byte: u64, first: u64) -> Result<(), String> {
 impl Join {
     /// Joins a recording at a byte. It is not joined where its header is refused, or all of it.
     pub fn at(byte: u64, recording: &Recording) -> Result<Option<Join>, String> {
-        let (bytes, format) = (&recording.file.bytes, recording.format);
+        let (bytes, format) = (&recording.bytes, recording.format);
         let (first, asked) = match format.head {
-            _ if recording.file.is_too_long() => return Ok(None),
+            _ if recording.is_too_long() => return Ok(None),
             Head::Text(side) => match read_header(bytes, side) {
                 Ok(header) => (header.data, Asked { width: Some(header.width), height: Some(header.height) }),
                 Err(_) => return Ok(None),
@@ -52,7 +52,7 @@ impl Join {
             _ => (0, recording.asked),
         };
         let Some(rest) = usize::try_from(byte).ok().and_then(|byte| bytes.get(byte..)) else {
-            return Err(format!("--join {byte}: {} has only {} bytes", recording.file.name, bytes.len()));
+            return Err(format!("--join {byte}: {} has only {} bytes", recording.name, bytes.len()));
         };
         is_word(byte, first as u64)?;
         let (byte, words) = (byte as usize, format.part_way.expect("it was asked when the arguments were looked at"));

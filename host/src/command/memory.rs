@@ -1,4 +1,4 @@
-//! Memory for files, rows, words and summaries that is asked for and may be refused, so that a long recording ends in a message.
+//! Memory for rows, words and files that is asked for and may be refused, so that a long recording ends in a message.
 use std::alloc::{alloc_zeroed, Layout};
 use std::ffi::c_int;
 
@@ -48,8 +48,6 @@ pub trait Number: Copy {}
 impl Number for u8 {}
 
 impl Number for u32 {}
-
-impl Number for u64 {}
 
 /// So many zeros. Those that are never touched take no memory, since the system gives zeroed pages when they are first used.
 pub fn zeros<T: Number>(length: usize) -> Result<Vec<T>, Lack> {

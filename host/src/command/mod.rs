@@ -8,14 +8,12 @@ mod formats;
 mod header;
 mod help;
 mod info;
-mod input;
 mod join;
 mod memory;
 mod names;
 mod options;
 mod out;
 mod output;
-mod printer;
 mod progress;
 mod recording;
 mod refusals;
@@ -24,7 +22,6 @@ mod selection;
 mod signals;
 mod since;
 mod standard;
-mod summary;
 mod view;
 
 use arguments::Request;
@@ -76,8 +73,6 @@ fn carry_out(request: Request) -> Result<(), Failure> {
         Request::Print(text) => output::write(text.as_bytes()),
         Request::Info(source, view) => info::print(&source, &view),
         Request::Rows(source, view, lines) => rows::print(&source, &view, &lines),
-        Request::Summary(source, selection, named) => summary::print(&source, &selection, named),
-        Request::Stored(path, named) => summary::print_stored(&path, named),
         Request::Convert(source, selection, target, out) => convert::convert(&source, &selection, target, &out),
     }
 }

@@ -1,6 +1,6 @@
 //! Where `convert` writes to: a file, whole or not at all, or a stream.
-use super::input::Input;
 use super::names::shown;
+use super::recording::Input;
 use super::{signals, standard, Failure};
 use std::ffi::OsStr;
 use std::fs::{self, File, Metadata};
@@ -30,7 +30,7 @@ impl Out {
         if STANDARD.iter().any(|standard| path == *standard) {
             return match force || !io::stdout().is_terminal() {
                 true => Ok(Out { name: "to standard output".to_string(), place: Place::Standard, force }),
-                false => Err(Failure::Declined("what is written is binary and would garble the terminal; name a file, or add --force".to_string())),
+                false => Err(Failure::Declined("words are binary and would garble the terminal; name a file, or add --force".to_string())),
             };
         }
         let (name, path) = (shown(path), Path::new(path));

@@ -69,10 +69,6 @@ const RULES: [Rule; Refusal::ALL.len()] = [
     Rule { writing: "write other words, leave such rows out by --kind, --region or --camera, or use the rows as `rows` prints them", ..rule(Refusal::BAD_ROW) },
     Rule { writing: "write it in parts, each to a file of its own: --until T for the first and --from T for the next", ..rule(Refusal::BAD_LIST) },
     Rule { reading: "give a width and a height from 1 to 2048, or leave them out", ..rule(Refusal::BAD_PICTURE) },
-    Rule {
-        reading: "the file is damaged or is no summary: make it again from its recording, with `convert IN OUT --to summary`",
-        ..rule(Refusal::BAD_SUMMARY)
-    },
 ];
 
 const fn rule(refusal: Refusal) -> Rule {
@@ -94,16 +90,12 @@ pub fn reading(fault: &Fault, recording: &Recording) -> String {
         (_, false) => reading.to_string(),
     };
     let also = if rows > 0 && !with_rows.is_empty() { format!("; {with_rows}") } else { String::new() };
-    message(
-        refusal,
-        &format!("at byte {place} of {} (counted from 0); {} before it", recording.file.name, finished(rows)),
-        &format!("{advice}{also}"),
-    )
+    message(refusal, &format!("at byte {place} of {} (counted from 0); {} before it", recording.name, finished(rows)), &format!("{advice}{also}"))
 }
 
 /// What to do about a header: what has to stand at this place, and what stands there.
 fn of_header(place: usize, recording: &Recording) -> String {
-    let bytes = &recording.file.bytes;
+    let bytes = &recording.bytes;
     match recording.format.head {
         Head::Text(limit) if read_header(bytes, limit).is_ok() => format!(
             "check first that it is a DAT file: its header must be followed by the bytes 0 and 8, the type and the size of its events, and here it is {} and {}",
@@ -115,11 +107,6 @@ fn of_header(place: usize, recording: &Recording) -> String {
             .to_string(),
         _ => rule_of(Refusal::BAD_HEADER).reading.to_string(),
     }
-}
-
-/// A refusal of a stored summary. It has no place; what to do is always the same.
-pub fn stored(refusal: Refusal, name: &str) -> String {
-    message(refusal, &format!("in {name}; nothing was printed"), rule_of(Refusal::BAD_SUMMARY).reading)
 }
 
 /// A writer's refusal of the rows of a recording.
@@ -143,9 +130,9 @@ fn at(index: usize, name: &str, row: &[u32]) -> String {
     format!("at row {index} of {name} (counted from 0): {}", events::line(row))
 }
 
-/// What the formats that are written hold.
+/// What words hold.
 fn held() -> String {
-    let held = written().map(|(name, writing)| format!("{} holds {}", capitals([name].into_iter()), writing.holds));
+    let held = written().map(|(name, words)| format!("{} holds {}", capitals([name].into_iter()), words.holds));
     held.collect::<Vec<_>>().join("; ")
 }
 

@@ -1,14 +1,15 @@
 //! `rows`: the rows of a recording as lines of text, or how many there are in each bin.
 use super::arguments::Source;
 use super::columns::{add_cell, Column};
-use super::input::Input;
 use super::memory::Lack;
-use super::printer::Printer;
 use super::progress::Progress;
-use super::recording::Recording;
+use super::recording::Input;
 use super::since::Edges;
 use super::view::{Bin, Looked, View};
-use super::{events, header, Failure};
+use super::{events, header, output, Failure};
+
+/// Lines are written to standard output when they have so many bytes together.
+const BYTES_AT_ONCE: usize = 1 << 18;
 
 /// What a line holds.
 pub enum Lines {
@@ -22,16 +23,18 @@ pub enum Lines {
 /// Prints those rows of a recording that are looked at.
 pub fn print(source: &Source, view: &View, lines: &Lines) -> Result<(), Failure> {
     let progress = Progress::new();
-    let recording = Recording::load(Input::open(&source.path)?, source, &progress)?;
+    let recording = Input::open(source)?.load(source, &progress)?;
     let reading = recording.read(&progress);
     header::note(&recording, &progress);
     if let Some(join) = &recording.join {
         progress.note(&format!("note: {}", join.lines(reading.stop).join("; ")));
     }
-    let lack = |lack: Lack| Failure::Failed(lack.message("triggers or bins", &recording.file.name, "nothing was printed"));
+    let lack = |lack: Lack| Failure::Failed(lack.message("triggers or bins", &recording.name, "nothing was printed"));
     let looked = view.look(reading.numbers()).map_err(lack)?;
     looked.lack_of_edges().iter().for_each(|note| progress.note(note));
-    let mut printer = Printer::new(&progress);
+    progress.before_printing();
+    progress.stage("printing", "lines");
+    let mut printer = Printer { text: vec![], lines: 0, progress: &progress };
     match lines {
         Lines::Columns(columns, named) => print_columns(&looked, columns, *named, &mut printer),
         Lines::Events => looked.items().try_for_each(|item| {
@@ -52,7 +55,7 @@ pub fn print(source: &Source, view: &View, lines: &Lines) -> Result<(), Failure>
 
 fn print_columns(looked: &Looked, columns: &[Column], named: bool, printer: &mut Printer) -> Result<(), Failure> {
     if named {
-        printer.names(columns.iter().map(|column| column.name))?;
+        printer.line(|text| columns.iter().for_each(|column| add_text(column.name, text)))?;
     }
     looked.items().try_for_each(|item| printer.line(|text| columns.iter().for_each(|column| column.add(&item, text))))
 }
@@ -60,7 +63,8 @@ fn print_columns(looked: &Looked, columns: &[Column], named: bool, printer: &mut
 /// Prints bins, with the time since the last edge where that was asked for.
 fn print_bins(bins: &[Bin], since: Option<&Edges>, named: bool, printer: &mut Printer) -> Result<(), Failure> {
     if named {
-        printer.names(["time_us"].into_iter().chain(since.map(|_| "since_us")).chain(["events"]))?;
+        let names: &[&str] = if since.is_some() { &["time_us", "since_us", "events"] } else { &["time_us", "events"] };
+        printer.line(|text| names.iter().for_each(|name| add_text(name, text)))?;
     }
     bins.iter().try_for_each(|&(start, count)| {
         printer.line(|text| {
@@ -71,4 +75,38 @@ fn print_bins(bins: &[Bin], since: Option<&Edges>, named: bool, printer: &mut Pr
             add_cell(Some(count as u64), text);
         })
     })
+}
+
+/// Adds a text and a space.
+fn add_text(cell: &str, text: &mut Vec<u8>) {
+    text.extend_from_slice(cell.as_bytes());
+    text.push(b' ');
+}
+
+/// Lines on their way to standard output.
+struct Printer<'a> {
+    text: Vec<u8>,
+    lines: usize,
+    progress: &'a Progress,
+}
+
+impl Printer<'_> {
+    /// Adds a line whose cells each end with a space.
+    fn line(&mut self, add: impl FnOnce(&mut Vec<u8>)) -> Result<(), Failure> {
+        add(&mut self.text);
+        // in place of the last space
+        *self.text.last_mut().expect("a line is not empty") = b'\n';
+        self.lines += 1;
+        match self.text.len() < BYTES_AT_ONCE {
+            true => Ok(()),
+            false => self.flush(),
+        }
+    }
+
+    fn flush(&mut self) -> Result<(), Failure> {
+        self.progress.done(self.lines);
+        output::write(&self.text)?;
+        self.text.clear();
+        Ok(())
+    }
 }

@@ -76,7 +76,6 @@ fn against_a_format_that_was_named() {
         file.declined(&message("recording"));
         fed.declined(&message("standard input"));
         run_on(&folder, lines.as_bytes(), &["convert", "recording", "out", "--format", format, "--to=evt2"]).declined(&message("recording"));
-        run(&folder, &["summary", "recording", "--format", format]).declined(&message("recording"));
         // by force it is read, and it is still told
         let forced = run(&folder, &["rows", "recording", "--format", format, "--force"]);
         assert!(forced.stderr.starts_with(&format!("note: {quoted}; it is read as {format}, since --force is given\n")), "{forced:?}");

@@ -87,8 +87,6 @@ pub const DAT_EVENTS: &str = "\
 12500100 µs pixel x 16383 y 479 darker camera 0
 ";
 
-pub const DAT_SUMMARY: &str = "0 2 100 12500100 100 12500100 2 0 0 0 0 0\n";
-
 /// An AEDAT file: a pixel, an edge of an external input, another special event, and an IMU reading after 2^32 us.
 pub fn aedat() -> Vec<u8> {
     let readings = [1.0, -2.5, 0.5, 131.25, 0.0, -0.25, 21.5].map(f32::to_bits);

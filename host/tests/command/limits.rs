@@ -1,5 +1,5 @@
 //! Long recordings, little memory, and a standard output that takes no more.
-use super::inputs::{dat, DAT_ROWS, DAT_SUMMARY};
+use super::inputs::{dat, DAT_ROWS};
 use super::run::{command, files, folder, run, run_after, run_fed, run_on, Run, BINARY};
 use std::fs::{self, File};
 use std::io::{BufRead, BufReader, Read, Write};
@@ -41,7 +41,6 @@ fn the_longest_input() {
     within(&["rows", "recording", "--format", "evt3", "--join", "8"]).failed(&message("recording"));
     within(&["rows", "recording", "--format", "raw-evt3", "--join", "7"]).failed(&message("recording"));
     within(&["convert", "recording", "out", "--format", "evt2", "--to", "evt2"]).failed(&message("recording"));
-    within(&["summary", "recording", "--format", "evt2"]).failed(&message("recording"));
     run_after(&folder, "ulimit -v 100000; exec < recording", &["rows", "-", "--format", "evt2"]).failed(&message("standard input"));
     // of which another program has read so much that the rest is not too long
     let run = run_after(&folder, "exec < recording; dd bs=5000 count=1 of=/dev/null 2> /dev/null", &["rows", "-", "--format", "evt2"]);
@@ -90,7 +89,7 @@ fn progress_on_a_terminal() {
     let folder = folder("progress-terminal");
     fs::write(folder.join("recording"), dat()).expect("a file for the test");
     let info = run(&folder, &["info", "recording", "--format", "dat"]).good().text().replace("file: recording", "file: standard input");
-    for (command, printed) in [("rows", DAT_ROWS), ("info", &info), ("summary", DAT_SUMMARY)] {
+    for (command, printed) in [("rows", DAT_ROWS), ("info", &info)] {
         let line = format!("(head -c 40 recording; sleep 3; tail -c +41 recording) | {BINARY} {command} - --format dat");
         // all of it on one terminal
         let output =
@@ -115,32 +114,20 @@ fn dense(rows: usize) -> Vec<u8> {
 #[test]
 fn the_longest_list() {
     let folder = folder("longest-list");
+    let arguments = ["convert", "recording", "out", "--format", "evt3", "--to", "evt3"];
     // the last row a microsecond after the others
     let recording = [dense(16_777_216), evt3::bytes_of(&[0x6001, 0x2000])].concat();
-    for to in ["evt3", "summary"] {
-        run_on(&folder, &recording, &["convert", "recording", "out", "--format", "evt3", "--to", to]).failed(
-            "refused 13: a list whose length is no multiple of ten, or over 16777216 rows\n\
-             recording has 16777217 rows, and at most 16777216 can be written; nothing was written\n\
-             what to do: write it in parts, each to a file of its own: --until T for the first and --from T for the next; here T may be 1\n",
-        );
-        assert_eq!(files(&folder), ["recording"]);
-    }
+    run_on(&folder, &recording, &arguments).failed(
+        "refused 13: a list whose length is no multiple of ten, or over 16777216 rows\n\
+         recording has 16777217 rows, and at most 16777216 can be written; nothing was written\n\
+         what to do: write it in parts, each to a file of its own: --until T for the first and --from T for the next; here T may be 1\n",
+    );
+    assert_eq!(files(&folder), ["recording"]);
     // as it says
     for (part, out, rows) in [(["--until", "1"], "first", 16_777_216), (["--from", "1"], "second", 1)] {
         let run = run(&folder, &[&["convert", "recording", out, "--format", "evt3", "--to", "evt3"], &part[..]].concat()).good();
         assert!(run.text().starts_with(&format!("{out}: written; rows: {rows} of 16777217, evt3 words: ")), "{run:?}");
     }
-    // the summary of all rows is printed, and that of so many is stored
-    let line = |row: usize| format!("{row} 256 0 0 0 0 256 0 0 0 0 0\n");
-    let summary: String = (0..16_777_216).step_by(256).map(line).collect();
-    let printed = run(&folder, &["summary", "recording", "--format", "evt3"]).good();
-    assert!(printed.text().strip_prefix(&summary) == Some("16777216 1 1 1 1 1 1 0 0 0 0 0\n"));
-    let stored = run(&folder, &["convert", "recording", "out.summary", "--format", "evt3", "--to", "summary", "--until", "1"]).good();
-    assert_eq!(
-        stored.text(),
-        "out.summary: written; rows: 16777216 of 16777217, summary blocks: 65536, bytes: 3866631\nto read it back: summary out.summary\n"
-    );
-    assert!(run(&folder, &["summary", "out.summary"]).good().text() == summary);
 }
 
 /// A DAT file of a million events, of 8 MB, whose rows take 40 MB.
@@ -181,12 +168,6 @@ fn memory_for_some_rows() {
     );
     assert_eq!(run.stderr, message);
     // what did fit is summed up, and nothing is written
-    let summary = run_within(&folder, SOME, &["summary", "recording", "--format", "dat"]);
-    let summed = number_after("on this machine; ", &summary);
-    assert!(summary.status == Some(1) && summed > 0 && summary.text().lines().count() == summed.div_ceil(256), "{summary:?}");
-    // so many were finished, whatever the filters let through
-    let none = run_within(&folder, SOME, &["summary", "recording", "--format", "dat", "--kind", "trigger"]);
-    assert!(none.status == Some(1) && none.text().is_empty() && number_after("on this machine; ", &none) > 0, "{none:?}");
     let info = run_within(&folder, SOME, &["info", "recording", "--format", "dat"]);
     assert!(info.status == Some(1) && info.text().contains(" before the reading stopped\n"), "{info:?}");
     let convert = run_within(&folder, SOME, &["convert", "recording", "out", "--format", "dat", "--to", "evt3"]);
@@ -200,16 +181,14 @@ fn memory_that_ends_anywhere() {
     recording(&folder);
     let all = run(&folder, &["rows", "recording", "--format", "dat"]).good().text().lines().count();
     for kibibytes in (16_000..80_000).step_by(1_700) {
-        for (command, rows_a_line) in [("rows", 1), ("summary", 256)] {
-            let run = run_within(&folder, kibibytes, &[command, "recording", "--format", "dat"]);
-            let rows = match run.status {
-                Some(0) => all,
-                _ if run.stderr.contains("no rows were read") => 0,
-                _ => number_after("on this machine; ", &run),
-            };
-            assert!(matches!(run.status, Some(0 | 1)), "{kibibytes} KiB: {}", run.stderr);
-            assert_eq!(run.text().lines().count(), rows.div_ceil(rows_a_line), "{kibibytes} KiB: {}", run.stderr);
-        }
+        let run = run_within(&folder, kibibytes, &["rows", "recording", "--format", "dat"]);
+        let rows = match run.status {
+            Some(0) => all,
+            _ if run.stderr.contains("no rows were read") => 0,
+            _ => number_after("on this machine; ", &run),
+        };
+        assert!(matches!(run.status, Some(0 | 1)), "{kibibytes} KiB: {}", run.stderr);
+        assert_eq!(run.text().lines().count(), rows, "{kibibytes} KiB: {}", run.stderr);
     }
 }
 
@@ -232,18 +211,6 @@ fn no_memory_for_bins() {
     }
 }
 
-/// A file that is read as a stored summary, and no memory for as many blocks as it can have.
-#[test]
-fn no_memory_for_blocks() {
-    let folder = folder("no-memory-for-blocks");
-    zeros(&folder, 59 << 20);
-    run_within(&folder, 100_000, &["summary", "recording", "--format", "summary"]).failed(
-        "not enough memory: the system refused 83886080 bytes for blocks\n\
-         recording is too large to be read in one piece on this machine; nothing was printed\n\
-         what to do: use a machine with more memory, or record in shorter parts\n",
-    );
-}
-
 #[test]
 fn no_memory_for_the_file() {
     let folder = folder("no-memory");
@@ -260,14 +227,7 @@ fn no_memory_for_the_file() {
 fn a_closed_pipe() {
     let folder = folder("closed-pipe");
     recording(&folder);
-    let commands = [
-        &["rows", "recording", "--format", "dat"][..],
-        &["rows", "--events", "recording", "--format", "dat"],
-        &["summary", "recording", "--format", "dat"],
-        &["summary", "stored", "--format", "summary"],
-    ];
-    run(&folder, &["convert", "recording", "stored", "--format", "dat", "--to", "summary"]).good();
-    for arguments in commands {
+    for arguments in [&["rows", "recording", "--format", "dat"][..], &["rows", "--events", "recording", "--format", "dat"]] {
         let mut child = command(&folder, arguments).stdout(Stdio::piped()).stderr(Stdio::piped()).spawn().expect("the command runs");
         let mut start = [0; 100];
         child.stdout.take().expect("a pipe").read_exact(&mut start).expect("some rows");
@@ -292,13 +252,11 @@ fn nowhere_to_write_or_read() {
     let folder = folder("closed");
     fs::write(folder.join("recording"), dat()).expect("a file for the test");
     let closed = "cannot write to standard output: it is closed\n";
-    let commands: [&[&str]; 7] = [
+    let commands: [&[&str]; 5] = [
         &["--help"],
         &["refusals"],
         &["info", "recording", "--format=dat"],
         &["rows", "recording", "--format=dat"],
-        &["summary", "recording", "--format=dat"],
-        &["summary", "recording", "--format=summary"],
         &["convert", "recording", "out", "--format=dat", "--to=evt2"],
     ];
     for arguments in commands {
@@ -307,7 +265,6 @@ fn nowhere_to_write_or_read() {
     assert_eq!(files(&folder), ["recording"]);
     let unwritable = "cannot write to standard output: Bad file descriptor (os error 9)\n";
     run_after(&folder, "exec 1< /dev/null", &["rows", "recording", "--format=dat"]).failed(unwritable);
-    run_after(&folder, "exec 1< /dev/null", &["summary", "recording", "--format=dat"]).failed(unwritable);
     run_after(&folder, "exec <&-", &["rows", "-", "--format=dat"]).failed("cannot read standard input: it is closed\n");
     // where it is not asked for, it may be closed
     assert_eq!(run_after(&folder, "exec <&-", &["rows", "recording", "--format=dat"]).good().text(), DAT_ROWS);

@@ -58,7 +58,7 @@ fn the_recording_is_never_changed() {
                 (vec!["info", "-", "--format=evt2"], "standard input"),
             ];
             for (line, name) in lines {
-                let changed = "itself, which is never changed; send it somewhere else\n";
+                let changed = "itself, and a recording is never changed; send it somewhere else\n";
                 run_after(&folder, opened, &line).declined(&format!("standard output goes into {name} {changed}"));
             }
         }
@@ -206,7 +206,7 @@ fn a_terminal() {
             Command::new("script").args(["-qec", &line, "/dev/null"]).current_dir(&folder).stdin(Stdio::null()).output().expect("script runs");
         (output.status.code(), output.stdout)
     };
-    assert_eq!(shown(""), (Some(2), b"what is written is binary and would garble the terminal; name a file, or add --force\r\n".to_vec()));
+    assert_eq!(shown(""), (Some(2), b"words are binary and would garble the terminal; name a file, or add --force\r\n".to_vec()));
     let (status, stdout) = shown("--force");
     assert!(status == Some(0) && stdout.starts_with(&in_order()[..8]), "{stdout:?}");
 }

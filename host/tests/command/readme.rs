@@ -36,17 +36,6 @@ fn joined_part_way() {
     assert!(section.contains(&format!("\n\n{}\n", shown(&told))), "{told}");
 }
 
-/// The first lines of the summary there.
-#[test]
-fn summed_up() {
-    let (_, section) = README.split_once("### A summary").expect("the section");
-    let line = section.lines().find_map(|line| line.strip_prefix("    ./fryskelom ")).expect("a command");
-    let printed = run(&in_repository("."), &line.split(' ').collect::<Vec<_>>()).good();
-    let first: String = printed.text().split_inclusive('\n').take(3).collect();
-    assert!(section.contains(&format!("\n\n{}\n", shown(&first))), "{first}");
-    assert!(section.contains(&format!("for each of {} blocks:", printed.text().lines().count() - 1)));
-}
-
 /// The fitter's question: how long after the coil's trigger did the armature move?
 #[test]
 fn the_question_and_its_answer() {

@@ -72,7 +72,6 @@ fn a_picture_that_the_header_does_not_say() {
     for (format, bytes, told) in cases {
         let note = if told.is_empty() { String::new() } else { format!("note: the header of recording {told}\n") };
         run_on(&folder, bytes, &["rows", "recording", "--format", format]).noted(&note);
-        run_on(&folder, bytes, &["summary", "recording", "--format", format]).noted(&note);
         run_on(&folder, bytes, &["convert", "recording", "out", "--format", format, "--to", "evt3", "--force"]).noted(&note);
         run_on(&folder, bytes, &["info", "recording", "--format", format]).good();
     }

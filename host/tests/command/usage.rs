@@ -6,7 +6,7 @@ use std::os::unix::process::CommandExt;
 fn help_and_version() {
     let folder = folder("help");
     let all = run(&folder, &["--help"]).good();
-    assert!(all.text().contains("./fryskelom convert IN OUT --to evt2|evt3|summary"));
+    assert!(all.text().contains("./fryskelom convert IN OUT --to evt2|evt3"));
     for arguments in [&["-h"][..], &["help"]] {
         assert_eq!(run(&folder, arguments).good().text(), all.text());
     }
@@ -16,8 +16,7 @@ fn help_and_version() {
 }
 
 /// All texts of help, and the table of refusals.
-const TEXTS: [&[&str]; 7] =
-    [&["--help"], &["info", "-h"], &["rows", "-h"], &["summary", "-h"], &["convert", "-h"], &["refusals", "-h"], &["refusals"]];
+const TEXTS: [&[&str]; 6] = [&["--help"], &["info", "-h"], &["rows", "-h"], &["convert", "-h"], &["refusals", "-h"], &["refusals"]];
 
 #[test]
 fn lines_of_80_columns() {
@@ -33,7 +32,7 @@ fn lines_of_80_columns() {
 #[test]
 fn options_in_the_help() {
     let folder = folder("options");
-    for (name, argument) in [("info", "FILE"), ("rows", "FILE"), ("summary", "FILE"), ("convert", "IN"), ("refusals", "")] {
+    for (name, argument) in [("info", "FILE"), ("rows", "FILE"), ("convert", "IN"), ("refusals", "")] {
         let help = run(&folder, &[name, "--help"]).good();
         let told: Vec<_> = help.text().lines().filter_map(|line| line.strip_prefix("  --")?.split(' ').next()).collect();
         assert_eq!(told.is_empty(), argument.is_empty(), "{name}");
@@ -85,7 +84,7 @@ fn its_own_name() {
 #[test]
 fn help_of_a_command() {
     let folder = folder("help-of-a-command");
-    for command in ["info", "rows", "summary", "convert", "refusals"] {
+    for command in ["info", "rows", "convert", "refusals"] {
         let help = run(&folder, &[command, "--help"]).good();
         assert!(help.text().starts_with(&format!("./fryskelom {command}")), "{help:?}");
         // whatever else is given
@@ -111,25 +110,21 @@ fn no_separator_of_thousands_anywhere() {
 fn nothing_at_all() {
     let run = run::<&str>(&folder("nothing"), &[]);
     assert_eq!((run.status, run.text()), (Some(2), ""));
-    assert_eq!(
-        run.stderr,
-        "usage: ./fryskelom info FILE, rows FILE, summary FILE, convert IN OUT --to evt2|evt3|summary, or refusals\ntry ./fryskelom --help\n"
-    );
+    assert_eq!(run.stderr, "usage: ./fryskelom info FILE, rows FILE, convert IN OUT --to evt2|evt3, or refusals\ntry ./fryskelom --help\n");
 }
 
 /// Command lines, one space between arguments, and how the message about each begins.
 const WRONG: &[(&str, &str)] = &[
-    ("fly", "there is no command fly: there are info, rows, summary, convert and refusals\n"),
+    ("fly", "there is no command fly: there are info, rows, convert and refusals\n"),
     ("--bogus", "there is no command --bogus: "),
     ("help fly", "there is no command fly: "),
     ("help rows info", "help is given for one command at a time"),
     ("--version rows", "--version stands alone"),
     // what may have been meant
-    ("inof a.dat", "there is no command inof: there are info, rows, summary, convert and refusals; did you mean info?\n"),
-    ("row a.dat", "there is no command row: there are info, rows, summary, convert and refusals; did you mean rows?\n"),
-    ("conv a.dat", "there is no command conv: there are info, rows, summary, convert and refusals; did you mean convert?\n"),
-    ("sumary a.dat", "there is no command sumary: there are info, rows, summary, convert and refusals; did you mean summary?\n"),
-    ("--versoin", "there is no command --versoin: there are info, rows, summary, convert and refusals; did you mean --version?\n"),
+    ("inof a.dat", "there is no command inof: there are info, rows, convert and refusals; did you mean info?\n"),
+    ("row a.dat", "there is no command row: there are info, rows, convert and refusals; did you mean rows?\n"),
+    ("conv a.dat", "there is no command conv: there are info, rows, convert and refusals; did you mean convert?\n"),
+    ("--versoin", "there is no command --versoin: there are info, rows, convert and refusals; did you mean --version?\n"),
     ("rows a.dat --evnts", "rows has no option --evnts; did you mean --events?\n"),
     ("rows a.dat --evens", "rows has no option --evens; did you mean --events?\n"),
     ("rows a.dat --regoin 1 2 3 4", "rows has no option --regoin; did you mean --region?\n"),
@@ -143,7 +138,6 @@ const WRONG: &[(&str, &str)] = &[
     ("info", "FILE is missing: ./fryskelom info FILE"),
     ("rows --events", "FILE is missing: ./fryskelom rows FILE"),
     ("rows --format dat --", "FILE is missing"),
-    ("summary --header", "FILE is missing: ./fryskelom summary FILE"),
     ("convert --to evt2", "IN is missing: ./fryskelom convert IN OUT"),
     ("convert a.dat --to evt2", "OUT is missing"),
     ("info a.dat b.dat", "b.dat is one argument too many: ./fryskelom info FILE"),
@@ -233,49 +227,13 @@ const WRONG: &[(&str, &str)] = &[
     ("rows a.dat --events --header", "--events has no columns for --header to name\n"),
     ("rows a.dat --columns x,since_us", "the column since_us needs --since, which says since what\n"),
     // convert
-    ("convert a.dat b", "convert needs --to evt2, --to evt3 or --to summary\n"),
-    ("convert a.dat b --to dat", "--to dat: nothing of this name is written; name evt2, evt3 or summary\n"),
-    ("convert a.dat b --to summery", "--to summery: nothing of this name is written; name evt2, evt3 or summary; did you mean summary?\n"),
+    ("convert a.dat b", "convert needs --to evt2 or --to evt3"),
+    ("convert a.dat b --to dat", "--to dat: there are no such words; name evt2 or evt3"),
     ("convert a.dat b.dat --to evt2", "b.dat: by this name evt2 words would later be taken for something else; end it in .evt2\n"),
     ("convert a.dat b.AeDat --to evt2", "b.AeDat: by this name"),
     ("convert a.dat b.evt3 --to evt2", "b.evt3: by this name evt2 words would later be taken for something else; end it in .evt2\n"),
     ("convert a.dat b.EVT2 --to evt3", "b.EVT2: by this name evt3 words would later be taken for something else; end it in .evt3\n"),
     ("convert a.dat b.raw --to evt3", "b.raw: by this name evt3 words"),
-    ("convert a.dat b.summary --to evt3", "b.summary: by this name evt3 words would later be taken for something else; end it in .evt3\n"),
-    ("convert a.dat b.dat --to summary", "b.dat: by this name summary blocks would later be taken for something else; end it in .summary\n"),
-    ("convert a.dat b.RAW --to summary", "b.RAW: by this name summary blocks"),
-    ("convert a.dat b.evt2 --to summary", "b.evt2: by this name summary blocks"),
-    // summaries that were stored hold no events, also by force
-    ("rows a.summary", "a.summary is a stored summary, which holds no events: use ./fryskelom summary\n"),
-    ("rows a.Summary --force --events", "a.Summary is a stored summary, which holds no events: use ./fryskelom summary\n"),
-    ("info a.summary --width 640", "a.summary is a stored summary, which holds no events: use ./fryskelom summary\n"),
-    ("info a --format summary", "a is a stored summary, which holds no events: use ./fryskelom summary\n"),
-    ("info - --format SUMMARY --force", "standard input is a stored summary, which holds no events: use ./fryskelom summary\n"),
-    ("rows a.dat --format=summary", "a.dat is a stored summary, which holds no events: use ./fryskelom summary\n"),
-    ("convert a.summary b --to evt2", "a.summary is a stored summary, which holds no events: use ./fryskelom summary\n"),
-    ("convert a.summary b.summary --to summary --force", "a.summary is a stored summary, which holds no events: use ./fryskelom summary\n"),
-    ("convert a b --to evt3 --format summary", "a is a stored summary, which holds no events: use ./fryskelom summary\n"),
-    // nor do filters go with them, or a picture
-    ("summary a.summary --width 640", "--width goes with a recording alone: a stored summary holds no events\n"),
-    ("summary a.summary --height 480 --force", "--height goes with a recording alone: a stored summary holds no events\n"),
-    ("summary a.SUMMARY --from 5", "--from goes with a recording alone: a stored summary holds no events\n"),
-    ("summary a --format summary --until 5", "--until goes with a recording alone: a stored summary holds no events\n"),
-    ("summary - --format Summary --kind pixel", "--kind goes with a recording alone: a stored summary holds no events\n"),
-    ("summary a.dat --format summary --region 1 2 3 4", "--region goes with a recording alone: a stored summary holds no events\n"),
-    ("summary a.summary --camera=1", "--camera goes with a recording alone: a stored summary holds no events\n"),
-    // with recordings they do, and no other options
-    ("summary a.dat --width 640", "--width and --height go with --format evt2 and --format evt3 alone: "),
-    ("summary a.dat --from 12,500", "--from 12,500: a whole number in digits alone is needed"),
-    ("summary a.dat --header=yes", "--header takes no value\n"),
-    ("summary a.dat --events", "summary has no option --events\n"),
-    ("summary a --format evt3 --join 8", "summary has no option --join\n"),
-    ("summary a.summary --bins 5", "summary has no option --bins"),
-    ("summary a.summary --to evt2", "summary has no option --to\n"),
-    ("summary a.summary b.summary", "b.summary is one argument too many: ./fryskelom summary FILE\n"),
-    ("summary -", "standard input: its format is needed; name evt2, evt3, raw-evt2, raw-evt3, dat, aedat or summary (only names that end in .dat, .aedat or .summary tell it)\n"),
-    ("summary a --format sumary", "--format sumary: there is no such format; name evt2, evt3, raw-evt2, raw-evt3, dat, aedat or summary; did you mean summary?\n"),
-    ("summary a --format evt4", "--format evt4: EVT4 is not read; the formats that are read are evt2, evt3, raw-evt2, raw-evt3, dat and aedat\n"),
-    ("rows a --format sumary", "--format sumary: there is no such format; name evt2, evt3, raw-evt2, raw-evt3, dat or aedat\n"),
 ];
 
 #[test]

@@ -1,5 +1,5 @@
 //! All numbers that the calls of the C interface answer, also those that the wrapper leaves out: the place of a reading that is not refused,
-//! and what stands in a header, a summary or an event that is. Each function has the name of the wrapper's.
+//! and what stands in a header or an event that is. Each function has the name of the wrapper's.
 
 // the wrapper's own declarations, so that they stand once
 #[path = "../../src/sys.rs"]
@@ -63,30 +63,18 @@ pub fn read_header(bytes: &[u8], limit: u32) -> (u64, u64, u32, u32) {
 
 /// The refusal, and the number of words or the index of a row.
 pub fn write_evt2(rows: &[u32], out: &mut [u8]) -> (u64, u64) {
-    written(sys::fry_write_evt2, rows, out)
+    write_words(sys::fry_write_evt2, rows, out)
 }
 
 /// As in [`write_evt2`].
 pub fn write_evt3(rows: &[u32], out: &mut [u8]) -> (u64, u64) {
-    written(sys::fry_write_evt3, rows, out)
+    write_words(sys::fry_write_evt3, rows, out)
 }
 
-/// The refusal, and the number of bytes or the index of a row.
-pub fn write_summary(rows: &[u32], out: &mut [u8]) -> (u64, u64) {
-    written(sys::fry_write_summary, rows, out)
-}
-
-fn written(writer: sys::Writer, rows: &[u32], out: &mut [u8]) -> (u64, u64) {
+fn write_words(writer: sys::WordWriter, rows: &[u32], out: &mut [u8]) -> (u64, u64) {
     // SAFETY: as in `read_words`.
     let writing = unsafe { writer(rows.as_ptr(), rows.len(), out.as_mut_ptr(), out.len()) };
     (writing.refusal, writing.count)
-}
-
-/// The refusal and the row count.
-pub fn read_summary(bytes: &[u8], blocks: &mut [u64]) -> (u64, u64) {
-    // SAFETY: as in `read_words`.
-    let summary = unsafe { sys::fry_read_summary(bytes.as_ptr(), bytes.len(), blocks.as_mut_ptr(), blocks.len()) };
-    (summary.refusal, summary.rows)
 }
 
 /// The refusal, kind, time, data and the bits of the readings.

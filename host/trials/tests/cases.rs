@@ -9,8 +9,8 @@ mod table;
 
 use answer::answer;
 use fryskelom::{
-    read_aedat, read_dat, read_evt2, read_evt3, read_header, read_raw_evt2, read_raw_evt3, read_summary, whole_evt3, write_evt2, write_evt3,
-    write_summary, Fault, Header, Refusal, RowFault,
+    read_aedat, read_dat, read_evt2, read_evt3, read_header, read_raw_evt2, read_raw_evt3, whole_evt3, write_evt2, write_evt3, Fault, Header,
+    RowFault,
 };
 use std::collections::BTreeSet;
 use std::panic::{catch_unwind, AssertUnwindSafe};
@@ -21,7 +21,7 @@ use trials::{fast, numbers, second};
 /// Reads bytes with the numbers of a case, and answers the refusal, the finished rows and the place.
 type Reader = fn(&[u8], [u32; 3], &mut [u32]) -> (u64, u64, u64);
 
-/// Answers the refusal, and the number of words or bytes or the index of a row.
+/// Answers the refusal, and the number of words or the index of a row.
 type Writer = fn(&[u32], &mut [u8]) -> (u64, u64);
 
 /// Answers the refusal, the place, the width and the height.
@@ -29,9 +29,6 @@ type HeaderReader = fn(&[u8], u32) -> (u64, u64, u32, u32);
 
 /// Answers whether there is such a byte, and the byte.
 type Finder = fn(&[u8]) -> (u64, u64);
-
-/// Answers the refusal and the row count.
-type SummaryReader = fn(&[u8], &mut [u64]) -> (u64, u64);
 
 /// Fails where one of those who are held to a case does not answer as it states.
 type Check = Box<dyn Fn()>;
@@ -50,16 +47,6 @@ fn put_words(writing: Writing, out: &mut [u8]) -> (u64, u64) {
 
 fn writer_answer(writing: Result<usize, RowFault>) -> (u64, u64) {
     writing.map_or_else(|fault| (fault.refusal.0, fault.row as u64), |words| (0, words as u64))
-}
-
-fn summary_answer(summary: Result<usize, Refusal>) -> (u64, u64) {
-    summary.map_or_else(|refusal| (refusal.0, 0), |rows| (0, rows as u64))
-}
-
-/// A summary that the second implementation has read, as one into a buffer.
-fn put_blocks(reading: second::summary::Reading, blocks: &mut [u64]) -> (u64, u64) {
-    blocks[..10 * reading.blocks.len()].copy_from_slice(reading.blocks.as_flattened());
-    reading.answer()
 }
 
 fn header_answer(header: Result<Header, Fault>) -> (u64, u64, u32, u32) {
@@ -144,20 +131,6 @@ const EVT3_WRITERS: [Writer; 4] = [
     |rows, out| put_words(second::evt3::write(rows, out.len()), out),
 ];
 
-const SUMMARY_WRITERS: [Writer; 4] = [
-    numbers::write_summary,
-    |rows, out| writer_answer(write_summary(rows, out)),
-    |rows, out| writer_answer(fast::summary::write(rows, out)),
-    |rows, out| put_words(second::summary::write(rows, out.len()), out),
-];
-
-const SUMMARY_READERS: [SummaryReader; 4] = [
-    numbers::read_summary,
-    |bytes, blocks| summary_answer(read_summary(bytes, blocks)),
-    |bytes, blocks| summary_answer(fast::summary::read(bytes, blocks)),
-    |bytes, blocks| put_blocks(second::summary::read(bytes, blocks.len()), blocks),
-];
-
 fn read(case: Case, reader: Reader) {
     let given = case.given(16);
     let before = if case.call() == "packets" { &b"#!AER-DAT3.1\r\n#Format: RAW\r\n#!END-HEADER\r\n"[..] } else { b"" };
@@ -171,11 +144,6 @@ fn write(case: Case, writer: Writer) {
     let [refusal, count] = case.answer();
     let lent = case.given(96)[0] as usize;
     lent::hold(|out| writer(&case.rows(), out), lent, (refusal, count), &case.stated_bytes(), || case.title());
-}
-
-fn read_the_summary(case: Case, reader: SummaryReader) {
-    let lent = case.given(20)[0] as usize;
-    lent::hold(|blocks| reader(&case.bytes(), blocks), lent, case.answer::<2>().into(), &case.stated_blocks(), || case.title());
 }
 
 /// Reads the words that a case states, which have to give its rows.
@@ -231,8 +199,6 @@ fn checks(case: Case) -> Vec<Check> {
         "row" => vec![],
         "header" => HEADER_READERS.into_iter().map(|reader| Box::new(move || read_the_header(case, reader)) as Check).collect(),
         "whole" => FINDERS.into_iter().map(|finder| Box::new(move || find(case, finder)) as Check).collect(),
-        "summary" => SUMMARY_READERS.into_iter().map(|reader| Box::new(move || read_the_summary(case, reader)) as Check).collect(),
-        "write-summary" => SUMMARY_WRITERS.into_iter().map(|writer| Box::new(move || write(case, writer)) as Check).collect(),
         "write-evt2" => by_writers(EVT2_WRITERS, "evt2"),
         "write-evt3" => by_writers(EVT3_WRITERS, "evt3"),
         call => readers(call).into_iter().map(|reader| Box::new(move || read(case, reader)) as Check).collect(),

@@ -4,8 +4,7 @@
 #[path = "common/readers.rs"]
 mod readers;
 
-use readers::damage::damage;
-use readers::{a_picture, answer, compare_all, compare_longest, often, Answer, Family, Reached as _, LARGEST};
+use readers::{a_picture, answer, compare_all, compare_longest, damage, often, Answer, Family, Reached as _, LARGEST};
 use trials::samples::evt2::{a_start, bytes_of, recording, Scene};
 use trials::samples::{Numbers, Picture};
 use trials::second::rows::time_of;

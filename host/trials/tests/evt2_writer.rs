@@ -1,13 +1,10 @@
 //! The EVT2 writer of the library, and the hand-written one of the benchmark, against the second implementation: lists that can be
 //! written, into buffers of every length, lists of two cameras, and lists in which any number of any row breaks any rule. What was written is
 //! read back.
-#[path = "common/read_list.rs"]
-mod read_list;
 #[path = "common/writers.rs"]
 mod writers;
 
 use fryskelom::{read_evt2, Refusal, RowFault};
-use read_list::read_list;
 use trials::samples::evt2::{a_start, list, Scene};
 use trials::samples::{evt3, imu, Numbers};
 use trials::second::rows::{limits, time_of, Row, MOST_ROWS};
@@ -30,8 +27,6 @@ impl writers::Reached for Reached {
     const SIZE: usize = 4;
 
     const KINDS: &'static [u32] = &[1, 2, 3];
-
-    const IN_ORDER: bool = true;
 
     const CLOCK: &'static [u64] = &[64];
 
@@ -95,12 +90,12 @@ const FAMILIES: [Family<Reached>; 1] = [("two cameras", two_cameras)];
 
 #[test]
 fn library() {
-    compare_all(numbers::write_evt2, |rows, bytes| read_list(read_evt2, rows, bytes), &FAMILIES);
+    compare_all(numbers::write_evt2, read_evt2, &FAMILIES);
 }
 
 #[test]
 fn hand_written_writer() {
-    compare_all(hand_written, |rows, bytes| read_list(fast::evt2::read, rows, bytes), &FAMILIES);
+    compare_all(hand_written, fast::evt2::read, &FAMILIES);
 }
 
 #[test]

@@ -1,13 +1,10 @@
 //! The EVT3 writer of the library, and the hand-written one of the benchmark, against the second implementation: every set of columns at
 //! both ends of a line, groups of every sort broken off in every way, every line of either camera, every number of wraps, and lists as they
 //! are for every writer. What was written is read back, and its words are counted.
-#[path = "common/read_list.rs"]
-mod read_list;
 #[path = "common/writers.rs"]
 mod writers;
 
 use fryskelom::read_evt3;
-use read_list::read_list;
 use trials::samples::evt3::{a_start, list, Scene};
 use trials::samples::{pixel, row, trigger, Numbers, LAST_TIME};
 use trials::second::evt3::groups;
@@ -50,8 +47,6 @@ impl writers::Reached for Reached {
     const SIZE: usize = 2;
 
     const KINDS: &'static [u32] = &[1, 2];
-
-    const IN_ORDER: bool = true;
 
     const CLOCK: &'static [u64] = &[4_096, WRAP];
 
@@ -292,12 +287,12 @@ const FAMILIES: [Family<Reached>; 6] = [
 
 #[test]
 fn library() {
-    compare_all(numbers::write_evt3, |rows, bytes| read_list(read_evt3, rows, bytes), &FAMILIES);
+    compare_all(numbers::write_evt3, read_evt3, &FAMILIES);
 }
 
 #[test]
 fn hand_written_writer() {
-    compare_all(hand_written, |rows, bytes| read_list(fast::evt3::read, rows, bytes), &FAMILIES);
+    compare_all(hand_written, fast::evt3::read, &FAMILIES);
 }
 
 #[test]

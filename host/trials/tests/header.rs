@@ -71,18 +71,6 @@ static void show_writing(writer *write, const uint32_t *rows, size_t len) {
     printf("\n");
 }
 
-static void show_summary(const uint32_t *rows, size_t len, size_t room) {
-    uint8_t stored[FRY_SUMMARY_BYTES(2)];
-    uint64_t blocks[FRY_BLOCK_NUMBERS * FRY_BLOCKS(2) + 2];
-    memset(stored, 7, sizeof(stored));
-    for (int i = 0; i < 12; i++) blocks[i] = 7;
-    fry_writing w = fry_write_summary(rows, len, stored, sizeof(stored));
-    fry_summary s = fry_read_summary(stored, w.count, blocks, room);
-    printf("%" PRIu64 " %" PRIu64 " %" PRIu64 " %" PRIu64, w.refusal, w.count, s.refusal, s.rows);
-    for (int i = 0; i < 12; i++) printf(" %" PRIu64, blocks[i]);
-    printf("\n");
-}
-
 int main(void) {
     const uint32_t imu[10] = {3, 7, 1, 16384, 32768, 0, 131, 65405, 262, 0};
     const uint32_t slave[10] = {1, 66, 0, 5, 3, 1, 1, 0, 0, 0};
@@ -109,13 +97,6 @@ int main(void) {
     show_writing(fry_write_evt3, list, 20);
     show_writing(fry_write_evt2, slave, 10);
     show_writing(fry_write_evt3, slave, 10);
-    show_writing(fry_write_summary, list, 0);
-    show_writing(fry_write_summary, list, 10);
-    show_writing(fry_write_summary, list, 20);
-    const uint32_t back[20] = {1, 66, 2, 5, 3, 1, 1, 0, 0, 0, 2, 7, 1, 31, 1, 0, 0, 0, 0, 0};
-    show_summary(back, 20, 12);
-    show_summary(back, 20, 9);
-    show_summary(list, 20, 12);
     show_header(26, 2048);
     show_header(13, 2048);
     show_header(20, 2048);
@@ -131,7 +112,7 @@ int main(void) {
                                0x0f, 0x00, 0x0a, 0x00, 0x07, 0x00, 0x00, 0x00, 5};
     show_file(fry_read_aedat, lines, aedat, 36);
     show_file(fry_read_aedat, lines, aedat, 64);
-    return sizeof(fry_reading) == 24 && sizeof(fry_writing) == 16 && sizeof(fry_header) == 24 && sizeof(fry_whole) == 16 && sizeof(fry_summary) == 16 ? 0 : 1;
+    return sizeof(fry_reading) == 24 && sizeof(fry_writing) == 16 && sizeof(fry_header) == 24 && sizeof(fry_whole) == 16 ? 0 : 1;
 }
 "##;
 
@@ -153,12 +134,6 @@ const EXPECTED: &str = "\
 12 1 07 07 07 07 07 07 07 07 07 07 07 07
 12 0 07 07 07 07 07 07 07 07 07 07 07 07
 0 4 00 80 42 60 03 08 05 28 07 07 07 07
-0 7 01 04 00 00 00 00 00 07 07 07 07 07
-2 0 07 07 07 07 07 07 07 07 07 07 07 07
-12 1 07 07 07 07 07 07 07 07 07 07 07 07
-0 66 0 2 8589934658 4294967303 4294967303 8589934658 1 1 0 0 0 0 7 7
-0 66 2 0 7 7 7 7 7 7 7 7 7 7 7 7
-12 1 17 0 7 7 7 7 7 7 7 7 7 7 7 7
 0 26 640 480
 0 13 640 2048
 4 13 0 0

@@ -1,6 +1,5 @@
 //! What the C header and the Rust wrapper offer beside the calls: names for numbers, buffers that are always enough, and how to build with them.
 use fryskelom::*;
-use std::collections::BTreeSet;
 use std::env;
 use std::fs;
 use std::path::PathBuf;
@@ -11,7 +10,6 @@ use trials::{in_repository, numbers, second};
 
 const README: &str = include_str!("../../../README.md");
 const HEADER: &str = include_str!("../../../include/fryskelom.h");
-const DECLARATIONS: &str = include_str!("../../src/sys.rs");
 
 fn folder(name: &str) -> PathBuf {
     trials::folder(&format!("wrapper/{name}"))
@@ -33,7 +31,6 @@ fn constants() -> Vec<(&'static str, u64)> {
         ("FRY_BAD_ROW", Refusal::BAD_ROW),
         ("FRY_BAD_LIST", Refusal::BAD_LIST),
         ("FRY_BAD_PICTURE", Refusal::BAD_PICTURE),
-        ("FRY_BAD_SUMMARY", Refusal::BAD_SUMMARY),
     ];
     assert_eq!(refusals.map(|(_, refusal)| refusal), Refusal::ALL);
     let others = [
@@ -50,14 +47,6 @@ fn constants() -> Vec<(&'static str, u64)> {
         ("FRY_MOST_WORDS_EVT2(1003)", most_words_evt2(1_003) as u64),
         ("FRY_MOST_WORDS_EVT3(1003, (uint64_t)16777215)", most_words_evt3(1_003, EVT3_WRAP - 1) as u64),
         ("FRY_MOST_WORDS_EVT3(1003, (uint64_t)17179869183)", most_words_evt3(1_003, 17_179_869_183) as u64),
-        ("FRY_BLOCK_NUMBERS", BLOCK_NUMBERS as u64),
-        ("FRY_BLOCKS(0)", blocks_of(0) as u64),
-        ("FRY_BLOCKS(256)", blocks_of(BLOCK_ROWS) as u64),
-        ("FRY_BLOCKS(256 + 1)", blocks_of(BLOCK_ROWS + 1) as u64),
-        ("FRY_SUMMARY_BYTES(0)", summary_bytes(0) as u64),
-        ("FRY_SUMMARY_BYTES(1003)", summary_bytes(1_003) as u64),
-        ("FRY_MOST_BLOCKS(58 + 1)", most_blocks(59) as u64),
-        ("FRY_MOST_BLOCKS(1003)", most_blocks(1_003) as u64),
     ];
     refusals.map(|(name, refusal)| (name, refusal.0)).into_iter().chain(others).collect()
 }
@@ -94,21 +83,13 @@ fn names_in_c() {
     }
 }
 
-/// The C header and the wrapper's declarations have the same functions.
-#[test]
-fn functions_in_c() {
-    let in_c: BTreeSet<_> = HEADER.lines().filter(|line| line.starts_with("fry_")).filter_map(|line| line.split([' ', '(']).nth(1)).collect();
-    let in_rust: BTreeSet<_> = DECLARATIONS.lines().filter_map(|line| line.trim_start().strip_prefix("pub fn ")?.split('(').next()).collect();
-    assert_eq!((&in_c, in_c.len()), (&in_rust, 13));
-}
-
 #[test]
 fn texts_of_refusals() {
     let texts = Refusal::ALL.map(Refusal::text);
     for (index, text) in texts.iter().enumerate() {
         assert!(text.len() > 10 && !texts[..index].contains(text), "{text}");
     }
-    for number in [0, 7, 15, 16, 18, u64::MAX] {
+    for number in [0, 7, 15, u64::MAX] {
         assert_eq!(Refusal(number).text(), "no refusal has this number");
     }
     assert_eq!(Refusal::CUT.to_string(), "refusal 4: the input ends inside a word, group, event, packet or header");
@@ -190,19 +171,6 @@ fn words_that_are_always_enough() {
         }
     }
     assert!(written.iter().all(|&count| count > 3) && full == [true, true], "{written:?} {full:?}");
-}
-
-#[test]
-fn blocks_that_are_always_enough() {
-    for rows in [0, 1, 255, 256, 257, 5_000] {
-        let list = [kind::TRIGGER, 7, 0, 1, 1, 0, 0, 0, 0, 0].repeat(rows);
-        let mut stored = vec![0; summary_bytes(rows)];
-        assert_eq!(write_summary(&list, &mut stored), Ok(stored.len()));
-        let mut blocks = vec![0; BLOCK_NUMBERS * most_blocks(stored.len())];
-        assert_eq!(read_summary(&stored, &mut blocks), Ok(rows));
-        assert_eq!(blocks.len(), BLOCK_NUMBERS * blocks_of(rows));
-    }
-    assert_eq!(read_summary(&[], &mut []).unwrap_err().to_string(), "refusal 17: a bad summary");
 }
 
 /// A program of one's own, with the lines of README.md in its Cargo.toml.

@@ -1,5 +1,5 @@
 //! The reader and the writer of EVT2 words.
-use super::{admit, fits, pixel, time_of, trigger, Never, Row, COUNTS, SIDE};
+use super::{admit, fits, pixel, time_of, trigger, Never, Row, HIGH, NONE};
 use fryskelom::{Fault, Refusal, RowFault};
 use std::slice::IterMut;
 
@@ -133,7 +133,10 @@ fn judge(rows: &[Row]) -> Result<usize, RowFault> {
 }
 
 /// What a writable row of kinds 1 to 3 is, and how many words it takes.
-const KINDS: [(Never, usize); 3] = [(pixel(SIDE, 1), 1), (trigger(32), 1), (COUNTS, 6)];
+const KINDS: [(Never, usize); 3] = {
+    const COUNT: u32 = !0xffff;
+    [(pixel(1), 1), (trigger(32), 1), ([HIGH, COUNT, COUNT, COUNT, COUNT, COUNT, COUNT, NONE], 6)]
+};
 
 /// How many words an event takes, TIME_HIGH apart; nothing for a row that has none.
 #[inline(always)]

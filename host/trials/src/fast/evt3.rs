@@ -143,7 +143,7 @@ pub fn write(rows: &[u32], out: &mut [u8]) -> Result<usize, RowFault> {
 }
 
 /// What a writable row of kinds 1 and 2 is.
-const KINDS: [Never; 2] = [pixel(SIDE, 2), trigger(16)];
+const KINDS: [Never; 2] = [pixel(2), trigger(16)];
 
 /// The columns of a vector.
 const COLUMNS: u32 = 12;

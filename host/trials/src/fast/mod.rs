@@ -7,7 +7,6 @@ pub mod dat;
 pub mod evt2;
 pub mod evt3;
 pub mod header;
-pub mod summary;
 
 const MOST_BYTES: usize = 1 << 30;
 const MOST_ROWS: usize = 1 << 24;
@@ -34,23 +33,16 @@ fn write<const N: usize>(
     judge: impl Fn(&[Row]) -> Result<usize, RowFault>,
     spell: impl Fn(&[Row], &mut [[u8; N]]),
 ) -> Result<usize, RowFault> {
-    let rows = rows_of(rows)?;
-    let words = judge(rows)?;
-    spell(rows, room_for(words, out)?);
-    Ok(words)
-}
-
-/// The rows of a list, if its length is one that is written.
-fn rows_of(numbers: &[u32]) -> Result<&[Row], RowFault> {
-    match numbers.as_chunks() {
-        (rows, []) if rows.len() <= MOST_ROWS => Ok(rows),
-        _ => Err(RowFault { refusal: Refusal::BAD_LIST, row: 0 }),
+    let (rows, rest) = rows.as_chunks();
+    if !rest.is_empty() || rows.len() > MOST_ROWS {
+        return Err(RowFault { refusal: Refusal::BAD_LIST, row: 0 });
     }
-}
-
-/// The part of a buffer that so many words take.
-fn room_for<const N: usize>(words: usize, out: &mut [u8]) -> Result<&mut [[u8; N]], RowFault> {
-    out.as_chunks_mut().0.get_mut(..words).ok_or(RowFault { refusal: Refusal::NO_ROOM, row: 0 })
+    let words = judge(rows)?;
+    match out.as_chunks_mut().0.get_mut(..words) {
+        Some(out) => spell(rows, out),
+        None => return Err(RowFault { refusal: Refusal::NO_ROOM, row: 0 }),
+    }
+    Ok(words)
 }
 
 /// The bits that no row of a kind has set in its numbers from the third on, if a format can write it.
@@ -60,21 +52,15 @@ type Never = [u32; 8];
 const HIGH: u32 = !3;
 const NONE: u32 = !0;
 
-/// A pixel in a format whose pictures have at most such a side, which is a power of two, and of so many cameras, 1 or 2.
-const fn pixel(side: u32, cameras: u32) -> Never {
-    [HIGH, !(side - 1), !(side - 1), !1, !(cameras - 1), NONE, NONE, NONE]
+/// A pixel in a format of so many cameras, 1 or 2.
+const fn pixel(cameras: u32) -> Never {
+    [HIGH, !(SIDE - 1), !(SIDE - 1), !1, !(cameras - 1), NONE, NONE, NONE]
 }
 
 /// A trigger in a format of so many channels, which are a power of two.
 const fn trigger(channels: u32) -> Never {
     [HIGH, !(channels - 1), !1, NONE, NONE, NONE, NONE, NONE]
 }
-
-/// The counts of an IMU.
-const COUNTS: Never = {
-    const COUNT: u32 = !0xffff;
-    [HIGH, COUNT, COUNT, COUNT, COUNT, COUNT, COUNT, NONE]
-};
 
 #[inline(always)]
 fn fits(row: &Row, never: &Never) -> bool {

@@ -7,25 +7,12 @@ pub mod evt3;
 pub mod header;
 pub mod recordings;
 pub mod relays;
-pub mod summary;
 
 /// Width and height in pixels.
 pub type Picture = (u32, u32);
 
 /// The last time that a row can have.
 pub const LAST_TIME: u64 = (1 << 34) - 1;
-
-/// Hands over some bytes with each of them in turn replaced by every value.
-pub fn each_byte_replaced(mut bytes: Vec<u8>, mut look: impl FnMut(&[u8])) {
-    for at in 0..bytes.len() {
-        let before = bytes[at];
-        for byte in 0..=u8::MAX {
-            bytes[at] = byte;
-            look(&bytes);
-        }
-        bytes[at] = before;
-    }
-}
 
 /// A row of any kind and data.
 pub const fn row(kind: u32, time: u64, [a, b, c, d, e, f, g]: [u32; 7]) -> [u32; 10] {

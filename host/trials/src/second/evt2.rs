@@ -107,7 +107,7 @@ fn row_of(group: &[Word], high: Option<u64>) -> Option<Row> {
 
 /// Writes a list of numbers into a buffer of so many bytes.
 pub fn write(numbers: &[u32], lent: usize) -> Writing {
-    words::write(&Format { bytes_a_word: 4, can_write, in_order: true, words_of }, numbers, lent)
+    words::write(&Format { bytes_a_word: 4, can_write, words_of }, numbers, lent)
 }
 
 fn can_write(row: &Row) -> bool {

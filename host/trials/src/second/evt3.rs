@@ -179,7 +179,7 @@ pub fn whole(bytes: &[u8]) -> Option<usize> {
 /// Writes a list of numbers into a buffer of so many bytes.
 pub fn write(numbers: &[u32], lent: usize) -> Writing {
     let words_of = |rows: &[Row]| spelling(rows).iter().map(|word| 4_096 * word.kind + word.data).collect();
-    words::write(&Format { bytes_a_word: 2, can_write, in_order: true, words_of }, numbers, lent)
+    words::write(&Format { bytes_a_word: 2, can_write, words_of }, numbers, lent)
 }
 
 fn can_write(row: &Row) -> bool {

@@ -10,5 +10,4 @@ pub mod evt3;
 pub mod header;
 pub mod raw;
 pub mod rows;
-pub mod summary;
 pub mod words;

@@ -48,8 +48,8 @@ pub fn good(row: &Row) -> bool {
 }
 
 /// Why a list cannot be written, whatever the buffer, and the index of the first row at fault. `writable` says for which good rows
-/// the format has words, and `in_order` whether none may be earlier than the one before it.
-pub fn first_fault(numbers: &[u32], writable: fn(&Row) -> bool, in_order: bool) -> Option<(u64, usize)> {
+/// the format has words.
+pub fn first_fault(numbers: &[u32], writable: fn(&Row) -> bool) -> Option<(u64, usize)> {
     let (rows, rest) = numbers.as_chunks();
     if !rest.is_empty() || rows.len() > MOST_ROWS {
         return Some((13, 0));
@@ -58,7 +58,7 @@ pub fn first_fault(numbers: &[u32], writable: fn(&Row) -> bool, in_order: bool) 
         if !good(row) || !writable(row) {
             return Some((12, index));
         }
-        if in_order && index > 0 && time_of(row) < time_of(&rows[index - 1]) {
+        if index > 0 && time_of(row) < time_of(&rows[index - 1]) {
             return Some((5, index));
         }
     }

@@ -71,8 +71,6 @@ pub struct Format {
     pub bytes_a_word: usize,
     /// Which good rows it has words for.
     pub can_write: fn(&Row) -> bool,
-    /// Whether no row may be earlier than the one before it.
-    pub in_order: bool,
     /// The words of rows that can be written.
     pub words_of: fn(&[Row]) -> Vec<u32>,
 }
@@ -80,7 +78,7 @@ pub struct Format {
 /// Writes a list of numbers into a buffer of so many bytes.
 pub fn write(format: &Format, numbers: &[u32], lent: usize) -> Writing {
     let refused = |refusal, count| Writing { refusal, count, bytes: vec![] };
-    if let Some((refusal, index)) = first_fault(numbers, format.can_write, format.in_order) {
+    if let Some((refusal, index)) = first_fault(numbers, format.can_write) {
         return refused(refusal, index);
     }
     let words = (format.words_of)(numbers.as_chunks().0);

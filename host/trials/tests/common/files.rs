@@ -6,7 +6,7 @@ mod lent;
 mod often;
 
 pub use often::often;
-use trials::samples::{each_byte_replaced, Numbers};
+use trials::samples::Numbers;
 use trials::second::words::{Reading, MOST_BYTES};
 
 /// The refusal, the finished rows and the place.
@@ -97,7 +97,15 @@ fn cut_files<R: Reached>(comparer: &mut Comparer<R>) {
 fn changed_bytes<R: Reached>(comparer: &mut Comparer<R>) {
     let mut numbers = Numbers::new(0x3d0c_11e8_72a9_54f1);
     for _ in 0..12 {
-        each_byte_replaced(R::a_short_file(&mut numbers), |bytes| comparer.compare(bytes));
+        let mut bytes = R::a_short_file(&mut numbers);
+        for at in 0..bytes.len() {
+            let before = bytes[at];
+            for byte in 0..=u8::MAX {
+                bytes[at] = byte;
+                comparer.compare(&bytes);
+            }
+            bytes[at] = before;
+        }
     }
 }
 

@@ -13,12 +13,6 @@ impl Number for u32 {
     }
 }
 
-impl Number for u64 {
-    fn untouched(index: usize) -> u64 {
-        u64::from(u32::untouched(index)) << 32 | u64::from(u32::untouched(!index))
-    }
-}
-
 impl Number for u8 {
     fn untouched(index: usize) -> u8 {
         (u32::untouched(index) >> 24) as u8

@@ -17,12 +17,12 @@ pub fn families<R: Reached>() -> [Family<R>; 7] {
 }
 
 /// A row that can be written.
-pub fn a_row<R: Reached>(time: u64, numbers: &mut Numbers) -> Row {
+fn a_row<R: Reached>(time: u64, numbers: &mut Numbers) -> Row {
     a_row_of::<R>(numbers.one_of(R::KINDS), time, numbers)
 }
 
 /// A row of a kind, with data that can be written if the kind can be.
-pub fn a_row_of<R: Reached>(kind: u32, time: u64, numbers: &mut Numbers) -> Row {
+fn a_row_of<R: Reached>(kind: u32, time: u64, numbers: &mut Numbers) -> Row {
     let limits = R::limits(kind).unwrap_or([1; 7]);
     row(kind, time, limits.map(|limit| (u64::from(numbers.any()) % limit) as u32))
 }

@@ -2,15 +2,12 @@
 //! recordings that are made up, damaged, cut and short of room.
 #[path = "answer.rs"]
 mod answer;
-#[path = "damage.rs"]
-pub mod damage;
 #[path = "lent.rs"]
 mod lent;
 #[path = "often.rs"]
 mod often;
 
 pub use answer::answer;
-use damage::damage;
 pub use often::often;
 use trials::samples::{Numbers, Picture};
 use trials::second::words::{Reading, MOST_BYTES};
@@ -138,6 +135,18 @@ fn damaged_recordings<R: Reached>(comparer: &mut Comparer<R>) {
         let mut bytes = R::a_recording(picture, 60, &mut numbers);
         damage(&mut bytes, &mut numbers);
         comparer.compare(&bytes, picture);
+    }
+}
+
+/// Replaces, drops and doubles some bytes.
+pub fn damage(bytes: &mut Vec<u8>, numbers: &mut Numbers) {
+    for _ in 0..=numbers.below(4) {
+        let at = numbers.below(bytes.len() as u32) as usize;
+        match numbers.below(3) {
+            0 => bytes[at] = numbers.any() as u8,
+            1 => drop(bytes.remove(at)),
+            _ => bytes.insert(at, bytes[at]),
+        }
     }
 }
 

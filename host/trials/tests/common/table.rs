@@ -70,12 +70,7 @@ impl Case {
         numbers(self.column(4))
     }
 
-    /// The numbers of blocks that are to be in the buffer, each of which stands there as its lower and its upper 32 bits.
-    pub fn stated_blocks(&self) -> Vec<u64> {
-        self.stated_rows().as_chunks().0.iter().map(|&[low, high]| u64::from(high) << 32 | u64::from(low)).collect()
-    }
-
-    /// The words or bytes that are to be in the buffer.
+    /// The words that are to be in the buffer.
     pub fn stated_bytes(&self) -> Vec<u8> {
         bytes(self.column(4))
     }

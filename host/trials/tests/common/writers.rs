@@ -1,11 +1,11 @@
-//! What the tests of all writers share: a writer is held to the second implementation, on lists of its format's own and on those that every
-//! format is tried with. What was written is read back.
+//! What the tests of all writers of words share: a writer is held to the second implementation, on lists of its format's own and on those
+//! that every format is tried with. What was written is read back.
 #[path = "lent.rs"]
-pub mod lent;
+mod lent;
 #[path = "lists.rs"]
-pub mod lists;
+mod lists;
 
-use fryskelom::RowFault;
+use fryskelom::{Fault, RowFault};
 use std::collections::BTreeSet;
 use trials::samples::Numbers;
 use trials::second::rows::{time_of, Row, MOST_ROWS};
@@ -17,8 +17,7 @@ pub type Answer = (u64, u64);
 
 pub type Writer = fn(&[u32], &mut [u8]) -> Answer;
 
-/// Fails where the bytes that were written for a list do not read back as they should.
-pub type ReadBack = fn(&[u32], &[u8]);
+pub type Reader = fn(&[u8], u32, u32, &mut [u32]) -> Result<usize, Fault>;
 
 pub fn answer(writing: Result<usize, RowFault>) -> Answer {
     match writing {
@@ -27,16 +26,13 @@ pub fn answer(writing: Result<usize, RowFault>) -> Answer {
     }
 }
 
-/// A format of words, and what its lists have reached. Those of a summary are its bytes.
+/// A format of words, and what its lists have reached.
 pub trait Reached: Default {
     /// How many bytes a word takes.
     const SIZE: usize;
 
     /// The kinds of rows that can be written.
     const KINDS: &'static [u32];
-
-    /// Whether a row is refused (5) that is earlier than the one before it.
-    const IN_ORDER: bool;
 
     /// After how many microseconds each part of the clock begins anew.
     const CLOCK: &'static [u64];
@@ -68,7 +64,7 @@ pub fn often(what: &str, which: usize, count: usize) {
 /// Holds a writer to the second implementation, reads back what it has written, and counts what was reached.
 pub struct Comparer<R> {
     writer: Writer,
-    read_back: ReadBack,
+    reader: Reader,
     inputs: usize,
     written: usize,
     /// Rows of a time that takes more than 32 bits.
@@ -87,11 +83,11 @@ pub struct Comparer<R> {
 }
 
 impl<R: Reached> Comparer<R> {
-    fn new(writer: Writer, read_back: ReadBack) -> Comparer<R> {
+    fn new(writer: Writer, reader: Reader) -> Comparer<R> {
         let reached = R::default();
         Comparer {
             writer,
-            read_back,
+            reader,
             inputs: 0,
             written: 0,
             late: 0,
@@ -120,9 +116,16 @@ impl<R: Reached> Comparer<R> {
         lent::hold(|out| (self.writer)(numbers, out), lent, expected.answer(), &expected.bytes, input);
         if expected.refusal == 0 {
             assert!(expected.count <= R::most_words(numbers.as_chunks().0), "more words than there may be; {}", input());
-            (self.read_back)(numbers, &expected.bytes);
+            self.read_back(numbers, &expected.bytes);
         }
         self.count(numbers, missing, &expected);
+    }
+
+    /// With room for the list alone, reading gives the list.
+    fn read_back(&self, numbers: &[u32], bytes: &[u8]) {
+        let mut rows = vec![u32::MAX; numbers.len()];
+        assert_eq!((self.reader)(bytes, 2_048, 2_048, &mut rows), Ok(numbers.len() / 10));
+        assert_eq!(rows, numbers);
     }
 
     fn count(&mut self, numbers: &[u32], missing: usize, writing: &Writing) {
@@ -152,17 +155,11 @@ impl<R: Reached> Comparer<R> {
     /// Every refusal at every index, every rule of every number, and what the format asks for was reached often.
     fn check(&self) {
         (0..4).for_each(|index| often("refusal 12 at row", index, self.refused[12][index]));
-        if R::IN_ORDER {
-            (1..4).for_each(|index| often("refusal 5 at row", index, self.refused[5][index]));
-        } else {
-            assert_eq!(self.refused[5], [0; 4], "refusal 5");
-        }
+        (1..4).for_each(|index| often("refusal 5 at row", index, self.refused[5][index]));
         for kind in 0..8 {
-            // the low half of the time breaks no rule, nor does a kind that can be written, nor a number that may be any
-            let any = |number: usize| number > 2 && R::limits(kind).is_some_and(|limits| limits[number - 3] == 1 << 32);
+            // the low half of the time breaks no rule, nor does a kind that can be written
             let numbers = if R::KINDS.contains(&kind) { 2..10 } else { 0..1 };
-            let broken = numbers.filter(|&number| !any(number));
-            broken.for_each(|number| often(&format!("kind {kind}, broken number"), number, self.broken[kind as usize][number]));
+            numbers.for_each(|number| often(&format!("kind {kind}, broken number"), number, self.broken[kind as usize][number]));
         }
         (1..9).for_each(|missing| often("bytes missing", missing, self.short[missing]));
         (1..10).for_each(|length| often("numbers of a part of a row", length, self.parts[length]));
@@ -187,8 +184,8 @@ fn first_broken<R: Reached>(row: &Row) -> usize {
 pub type Family<R> = (&'static str, fn(&mut Comparer<R>));
 
 /// Compares on the format's own families and on those of every format.
-pub fn compare_all<R: Reached>(writer: Writer, read_back: ReadBack, own: &[Family<R>]) {
-    let mut comparer = Comparer::new(writer, read_back);
+pub fn compare_all<R: Reached>(writer: Writer, reader: Reader, own: &[Family<R>]) {
+    let mut comparer = Comparer::new(writer, reader);
     for (name, family) in own.iter().chain(&lists::families()) {
         let before = comparer.inputs;
         family(&mut comparer);

@@ -2,13 +2,8 @@
 use std::hint::black_box;
 use std::time::Instant;
 
-/// From an input into a buffer; answers how many rows, words or blocks it has put there.
+/// From an input into a buffer; answers how many rows or words it has put there.
 pub type Way<I, O> = fn(&[I], &mut [O]) -> usize;
-
-/// What buffers are made of.
-pub trait Number: Copy + PartialEq + From<u8> {}
-
-impl<N: Copy + PartialEq + From<u8>> Number for N {}
 
 /// The seconds that each took in one round, one after the other.
 pub struct Round {
@@ -50,27 +45,29 @@ impl Measured {
     }
 }
 
-/// Times two readers of a recording or of a stored summary, into room for so many rows or blocks, of ten numbers each.
-pub fn reading<O: Number>(bytes: &[u8], room: usize, rounds: usize, ways: [Way<u8, O>; 2]) -> Measured {
-    let (rows, rounds) = measure(bytes, room, 10, rounds, ways);
+/// Times two readers of a recording, into room for so many rows.
+pub fn reading(bytes: &[u8], room: usize, rounds: usize, ways: [Way<u8, u32>; 2]) -> Measured {
+    let (rows, rounds) = measure(bytes, vec![u32::MAX; 10 * room], 10, rounds, ways);
     Measured { bytes: bytes.len(), rows, rounds }
 }
 
-/// Times two writers of a list, into room for so many words of a size. Those of a summary are its bytes.
+/// Times two writers of a list, into room for so many words of a size.
 pub fn writing(rows: &[u32], room: usize, size: usize, rounds: usize, ways: [Way<u32, u8>; 2]) -> Measured {
-    let (_, rounds) = measure(rows, room, size, rounds, ways);
+    let (_, rounds) = measure(rows, vec![u8::MAX; size * room], size, rounds, ways);
     Measured { bytes: size_of_val(rows), rows: rows.len() / 10, rounds }
 }
 
 /// Times two that look through a recording and put nothing anywhere; they answer how many words they have looked at.
 pub fn looking(bytes: &[u8], rounds: usize, ways: [Way<u8, u8>; 2]) -> Measured {
-    let (rows, rounds) = measure(bytes, 0, 0, rounds, ways);
+    let (rows, rounds) = measure(bytes, vec![], 0, rounds, ways);
     Measured { bytes: bytes.len(), rows, rounds }
 }
 
-/// Times two ways after both have put the same into a buffer with room for so many rows, words or blocks of a size.
-fn measure<I, O: Number>(input: &[I], room: usize, size: usize, rounds: usize, [by_hand, library]: [Way<I, O>; 2]) -> (usize, Vec<Round>) {
-    let mut buffer = vec![O::from(u8::MAX); size * room];
+/// Times two ways after both have put the same into the buffer: so many rows or words of a size.
+fn measure<I, O>(input: &[I], mut buffer: Vec<O>, size: usize, rounds: usize, [by_hand, library]: [Way<I, O>; 2]) -> (usize, Vec<Round>)
+where
+    O: Copy + PartialEq + From<u8>,
+{
     let count = by_hand(input, &mut buffer);
     let expected = buffer[..size * count].to_vec();
     buffer.fill(O::from(u8::MAX));
@@ -85,7 +82,7 @@ fn measure<I, O: Number>(input: &[I], room: usize, size: usize, rounds: usize, [
 }
 
 /// Fills the buffer, and reads nothing.
-fn fill<I, O: Number>(_: &[I], out: &mut [O]) -> usize {
+fn fill<I, O: Copy + From<u8>>(_: &[I], out: &mut [O]) -> usize {
     out.fill(O::from(1));
     out.len()
 }

@@ -1,12 +1,9 @@
-//! What is measured: made-up recordings and stored summaries with two readers of each, and lists of rows with two writers.
+//! What is measured: made-up recordings with two readers of each, and lists of rows with two writers.
 use crate::measure::{looking, reading, writing, Measured, Way};
-use fryskelom::{
-    blocks_of, read_aedat, read_dat, read_evt2, read_evt3, read_raw_evt2, read_raw_evt3, read_summary, summary_bytes, whole_evt3, write_evt2,
-    write_evt3, write_summary, Fault, BLOCK_ROWS,
-};
+use fryskelom::{read_aedat, read_dat, read_evt2, read_evt3, read_raw_evt2, read_raw_evt3, whole_evt3, write_evt2, write_evt3, Fault};
 use trials::fast;
 use trials::samples::header::header;
-use trials::samples::{aedat, dat, evt2, evt3, summary, Numbers, Picture};
+use trials::samples::{aedat, dat, evt2, evt3, Numbers, Picture};
 
 const PICTURE: Picture = (1_280, 720);
 
@@ -27,7 +24,7 @@ const fn growing(name: &'static str, measure: fn(usize, usize) -> Measured) -> S
     Stream { name, measure, grows: true }
 }
 
-pub const STREAMS: [Stream; 23] = [
+pub const STREAMS: [Stream; 20] = [
     stream("EVT3, single pixels", |events, rounds| reading_evt3(evt3::Scene::Pixels, events, rounds)),
     stream("EVT3, dense vectors", |events, rounds| reading_evt3(evt3::Scene::Dense, events, rounds)),
     stream("EVT3, sparse vectors", |events, rounds| reading_evt3(evt3::Scene::Sparse, events, rounds)),
@@ -48,9 +45,6 @@ pub const STREAMS: [Stream; 23] = [
     stream("EVT3 written, dense groups", |events, rounds| writing_evt3(evt3::Scene::Dense, events, rounds)),
     stream("EVT3 written, sparse groups", |events, rounds| writing_evt3(evt3::Scene::Sparse, events, rounds)),
     growing("EVT3 written, mixed", |events, rounds| writing_evt3(evt3::Scene::Mixed, events, rounds)),
-    stream("Summary written, pixels", |events, rounds| writing_summary(evt2::Scene::Pixels, events, rounds)),
-    growing("Summary written, mixed", |events, rounds| writing_summary(evt2::Scene::Mixed, events, rounds)),
-    growing("Summary read", reading_summary),
 ];
 
 fn numbers() -> Numbers {
@@ -139,19 +133,4 @@ fn writing_evt3(scene: evt3::Scene, events: usize, rounds: usize) -> Measured {
     let library: Way<u32, u8> = |rows, out| write_evt3(rows, out).expect("no refusal");
     // a row takes four words at most, each of the 1,023 wraps two
     writing(rows.as_flattened(), 4 * rows.len() + 2 * 1_023, 2, rounds, [by_hand, library])
-}
-
-fn writing_summary(scene: evt2::Scene, events: usize, rounds: usize) -> Measured {
-    let rows = evt2::list(scene, PICTURE, 0, events, &mut numbers());
-    let by_hand: Way<u32, u8> = |rows, out| fast::summary::write(rows, out).expect("no refusal");
-    let library: Way<u32, u8> = |rows, out| write_summary(rows, out).expect("no refusal");
-    writing(rows.as_flattened(), summary_bytes(rows.len()), 1, rounds, [by_hand, library])
-}
-
-/// A stored summary of so many blocks, which are what the table calls rows.
-fn reading_summary(blocks: usize, rounds: usize) -> Measured {
-    let bytes = summary::fields((BLOCK_ROWS * blocks) as u32, &mut numbers()).concat();
-    let by_hand: Way<u8, u64> = |bytes, blocks| blocks_of(fast::summary::read(bytes, blocks).expect("no refusal"));
-    let library: Way<u8, u64> = |bytes, blocks| blocks_of(read_summary(bytes, blocks).expect("no refusal"));
-    reading(&bytes, blocks, rounds, [by_hand, library])
 }

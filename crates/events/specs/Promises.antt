@@ -1,5 +1,5 @@
 -- The laws of this crate, each proved in proofs/Kept.antt under the name in lower case.
-use Rattle.std.specs.Prelude.{◌≡◌, ℕ, ◌%◌, ◌≤◌, ◌<◌, false, T, pos, nat_abs, Float}
+use Rattle.std.specs.Prelude.{◌≡◌, ℕ, ◌%◌, ◌≤◌, ◌<◌, true, false, T, pos, nat_abs, Float}
 use Rattle.std.specs.Float.{fin, binary32}
 use Rattle.std.specs.Float.Ieee.{fits, to_bits, round}
 use Rattle.rows.specs.declared.fault.Fault.TheVariants.{BadRow}

@@ -8,10 +8,10 @@ use mathlib.Core.List.{List, [], ◌∷◌}
 use lib.Dec.{eqb}
 use Rattle.rows.specs.declared.row.Row.{Row}
 use Rattle.rows.specs.Row.{time_of, row_from, rows_from}
-use Rattle.rows.proofs.Lists.{rows_none, rows_next}
 use Rattle.summary.specs.declared.Block.{Block}
 use Rattle.summary.specs.Blocks.{first_time, time_by, of_kind, rows_of_kind, block_of}
 use Rattle.summary.specs.Writer.{Few, add_row}
+use Rattle.summary.proofs.Lists.{rows_none, rows_next}
 
 -- a block with rows more, and what it then is
 abbrev add_all : Block → List Row → Block

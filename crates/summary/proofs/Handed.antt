@@ -7,11 +7,11 @@ use mathlib.Core.List.{List, []}
 use lib.ListN.{length}
 use lib.Dec.{eqb, leb}
 use borrow.Author.Tests.{le-leb, lt-leb, le-ltb, lt-ltb}
-use Rattle.rows.specs.declared.fault.Fault.TheVariants.{TooLong, NoRoom, BadSummary}
 use Rattle.rows.proofs.Stored.{sets_over}
 use Rattle.summary.specs.declared.Block.{Block}
 use Rattle.summary.specs.declared.reader.Answer.{Answer}
 use Rattle.summary.specs.declared.reader.Answer.TheVariants.{Rows, Refused}
+use Rattle.summary.specs.declared.reader.Refusal.TheVariants.{TooLong, NoRoom, BadSummary}
 use Rattle.summary.specs.declared.reader.SummaryNumbers.{SummaryNumbers}
 use Rattle.summary.specs.declared.reader.Walked.{Walked}
 use Rattle.summary.specs.declared.reader.Walked.TheVariants.{Blocks, Faulty}

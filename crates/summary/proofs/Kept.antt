@@ -1,10 +1,13 @@
 -- Each law of specs/Promises.antt, proved.
 use mathlib.Core.Path.{refl}
+use native.Mathlib.Omega.{arith}
 use mathlib.Core.List.{flat_map}
 use Rattle.words.specs.Words.{bytes_of}
+use Rattle.summary.specs.declared.reader.Refusal.TheVariants.{TooLong, NoRoom, BadSummary}
 use Rattle.summary.specs.Blocks.{blocks_by, blocks_of, summary_of}
 use Rattle.summary.specs.Stored.{field, stored_of}
-use Rattle.summary.specs.Promises.{BlocksAreList, TimesExact, KindsAdd, KindsAll, BlockNumbersLength, StoredLength, StoredEmpty, SummaryHeld, SummaryBack}
+use Rattle.summary.specs.Promises.{BlocksAreList, TimesExact, KindsAdd, KindsAll, SevenUnused, VerdictAll, BlockNumbersLength, StoredLength, StoredEmpty, SummaryHeld, SummaryBack}
+use Rattle.summary.proofs.Judging.{accepted_all, all_accepted}
 use Rattle.summary.proofs.KindNumbers as kind-numbers
 use Rattle.summary.proofs.ListCut as cut
 use Rattle.summary.proofs.ReadBack as back
@@ -22,6 +25,14 @@ kinds_add = kind-numbers.kinds_add
 
 pub kinds_all : KindsAll
 kinds_all = kind-numbers.kinds_all
+
+pub seven_unused : SevenUnused
+seven_unused TooLong e = omega arith
+seven_unused NoRoom e = omega arith
+seven_unused BadSummary e = omega arith
+
+pub verdict_all : VerdictAll
+verdict_all test rs i last = (accepted_all test rs i last, all_accepted test rs i last)
 
 pub block_numbers_length : BlockNumbersLength
 block_numbers_length = cut.block_numbers_length

@@ -1,15 +1,18 @@
 -- Lemmas, and the laws proved (Kept).
 pub mod Adding
 pub mod BlocksPut
+pub mod Bytes
 pub mod CountFound
 pub mod EachOf
 pub mod FieldByField
 pub mod FrontField
 pub mod GoodBlocks
 pub mod Handed
+pub mod Judging
 pub mod Kept
 pub mod KindNumbers
 pub mod ListCut
+pub mod Lists
 pub mod NumbersAt
 pub mod Putting
 pub mod ReadBack
@@ -19,3 +22,4 @@ pub mod StoredLength
 pub mod TenPut
 pub mod Times
 pub mod Walking
+pub mod Writers

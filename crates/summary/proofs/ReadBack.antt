@@ -9,14 +9,13 @@ use lib.Seq.{take-append_seam, drop-append_seam}
 use borrow.Author.Tests.{eq-eqb, le-leb, le-ltb}
 use Rattle.rows.specs.declared.row.Row.{Row}
 use Rattle.rows.specs.Row.{room_of, rows_of}
-use Rattle.rows.specs.Rules.{AllGood, good_row, in_any_order, accepted}
-use Rattle.rows.specs.Writers.{writing_of, written_over}
-use Rattle.rows.proofs.Judging.{few_rows, accepted_rows}
-use Rattle.rows.proofs.Kept.{over_kept, verdict_all}
+use Rattle.rows.specs.Rules.{AllGood, good_row, accepted}
+use Rattle.rows.proofs.Judging.{few_rows}
+use Rattle.rows.proofs.Kept.{over_kept}
 use Rattle.rows.proofs.Lists.{rows_of_length}
-use Rattle.rows.proofs.Writers.{room_long}
 use Rattle.words.specs.Words.{value, bytes_of}
-use Rattle.words.proofs.Bytes.{bytes_length, value_bytes}
+use Rattle.words.specs.Writer.{writing_of, written_over}
+use Rattle.words.proofs.Bytes.{bytes_length}
 use Rattle.summary.specs.declared.Block.{Block}
 use Rattle.summary.specs.declared.reader.Answer.{Answer}
 use Rattle.summary.specs.declared.reader.Answer.TheVariants.{Rows}
@@ -24,13 +23,17 @@ use Rattle.summary.specs.Blocks.{block_count, summary_of, block_numbers}
 use Rattle.summary.specs.Stored.{field, block_bytes, block_field, block_fields, stored_as, stored_of}
 use Rattle.summary.specs.Fields.{Fields, tagged, size_of, span_of, fields_of, block_from, Held, held, none, before, blocks_from, held_in}
 use Rattle.summary.specs.Reader.{answer_of, left_in}
+use Rattle.summary.specs.Verdicts.{in_any_order}
 use Rattle.summary.specs.Writer.{summary_verdict}
 use Rattle.summary.specs.Promises.{SummaryBack}
+use Rattle.summary.proofs.Bytes.{value_bytes}
 use Rattle.summary.proofs.EachOf.{each_next, each_none}
 use Rattle.summary.proofs.FieldByField.{fields_none, fields_next}
 use Rattle.summary.proofs.GoodBlocks.{Fits, AllFit, summary_fits}
+use Rattle.summary.proofs.Judging.{accepted_all, accepted_rows}
 use Rattle.summary.proofs.ListCut.{summary_length, block_numbers_length}
 use Rattle.summary.proofs.StoredLength.{block_length, stored_length}
+use Rattle.summary.proofs.Writers.{room_long}
 
 -- a field at the front of bytes
 field_front_lem : (tag : ℕ) (contents rest : List ℕ) → tag < 256 → length contents < 65536 → fields_of (field tag contents ++ rest) ≡ tagged tag contents (fields_of rest)
@@ -109,7 +112,7 @@ summary_back l ok out out' w long wrote old new r room read =
     stored = stored_of (rows_of l)
 
     good : AllGood (rows_of l)
-    good = (verdict_all good_row (rows_of l) 0 0).0 (accepted_rows (in_any_order good_row) l ok).1
+    good = accepted_all good_row (rows_of l) 0 0 (accepted_rows (in_any_order good_row) l ok).1
 
     few : room_of l ≤ 16777216
     few = few_rows l (accepted_rows (in_any_order good_row) l ok).0

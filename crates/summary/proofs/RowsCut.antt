@@ -6,8 +6,8 @@ use mathlib.Core.List.{List, [], ◌∷◌, map}
 use lib.ListN.{length}
 use Rattle.rows.specs.declared.row.Row.{Row}
 use Rattle.rows.specs.Row.{rows_from}
-use Rattle.rows.proofs.Lists.{rows_length, rows_none, rows_take, rows_drop}
 use Rattle.summary.specs.Blocks.{block_count, blocks_by, blocks_of, block_of, summary_of}
+use Rattle.summary.proofs.Lists.{rows_length, rows_none, rows_take, rows_drop}
 
 -- m rows from row i on
 pub summary_next : (l : List ℕ) (i m : ℕ) → 0 < m

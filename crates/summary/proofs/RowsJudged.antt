@@ -9,12 +9,13 @@ use Rattle.rows.specs.declared.fault.Writing.TheVariants.{Written, Refused}
 use Rattle.rows.specs.declared.rules.Judged.TheVariants as judged
 use Rattle.rows.specs.declared.row.Row.{Row}
 use Rattle.rows.specs.Row.{time_of, room_of, row_from, rows_of}
-use Rattle.rows.specs.Rules.{good_row, Verdict, in_any_order, verdict_by}
-use Rattle.rows.specs.Writers.{writing_of}
-use Rattle.rows.proofs.Judging.{Judging, judging_start, judging_done, judging_next, judging_refused}
+use Rattle.rows.specs.Rules.{good_row, Verdict}
 use Rattle.rows.proofs.Lists.{rows_of_length}
+use Rattle.words.specs.Writer.{writing_of}
 use Rattle.summary.specs.Blocks.{block_count}
 use Rattle.summary.specs.Stored.{stored_of}
+use Rattle.summary.specs.Verdicts.{verdict_by, in_any_order}
+use Rattle.summary.proofs.Judging.{Judging, judging_start, judging_done, judging_next, judging_refused}
 use Rattle.summary.proofs.StoredLength.{stored_length}
 
 -- the rows before row i are good, and the last of them has some time

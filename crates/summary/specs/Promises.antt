@@ -1,18 +1,20 @@
 -- The laws of this crate, each proved in proofs/Kept.antt under the name in lower case.
-use Rattle.std.specs.Prelude.{◌≡◌, ℕ, ◌+◌, ◌*◌, ◌-◌, ◌≤◌, ◌<◌, min, length, take, get_or}
+use Rattle.std.specs.Prelude.{◌≡◌, ℕ, ◌+◌, ◌*◌, ◌-◌, ◌≤◌, ◌<◌, min, Bool, length, take, get_or}
 use mathlib.Core.List.{List, [], ◌∷◌, flatten}
 use Rattle.rows.specs.declared.fault.Writing.{Writing}
 use Rattle.rows.specs.declared.fault.Writing.TheVariants.{Written}
 use Rattle.rows.specs.declared.row.Row.{Row}
-use Rattle.rows.specs.Row.{over, time_of, room_of, rows_of}
-use Rattle.rows.specs.Rules.{good_row, AllGood, accepted, in_any_order, verdict_on}
+use Rattle.rows.specs.Row.{over, All, time_of, room_of, rows_of}
+use Rattle.rows.specs.Rules.{good_row, AllGood, accepted}
 use Rattle.summary.specs.declared.Block.{Block}
 use Rattle.summary.specs.declared.reader.Answer.{Answer}
 use Rattle.summary.specs.declared.reader.Answer.TheVariants.{Rows}
+use Rattle.summary.specs.declared.reader.Refusal.{Refusal}
 use Rattle.summary.specs.Blocks.{block_count, blocks_of, rows_of_kind, block_of, summary_of, block_numbers}
 use Rattle.summary.specs.Stored.{stored_of}
 use Rattle.summary.specs.Fields.{fields_of, held, held_in}
-use Rattle.summary.specs.Reader.{ReadAs}
+use Rattle.summary.specs.Reader.{refusal_number, ReadAs}
+use Rattle.summary.specs.Verdicts.{verdict_by, verdict_on, in_any_order}
 use Rattle.summary.specs.Writer.{WroteSummary}
 
 -- 02, R-6: the blocks are the list, cut: end to end they are the list, there are block_count of them, and block j has 256 rows or what is left
@@ -59,6 +61,15 @@ KindsAdd = (rs : List Row) → KindsAdded rs
 abbrev pub KindsAll : Type 0
 KindsAll = (rs : List Row) → AllGood rs
     → (rows_of_kind 1 rs + rows_of_kind 2 rs + rows_of_kind 3 rs + rows_of_kind 4 rs + rows_of_kind 5 rs + rows_of_kind 6 rs ≡ length rs) × (rows_of_kind 5 rs ≡ 0)
+
+-- 02, R-9: 7 is no refusal's number
+abbrev pub SevenUnused : Type 0
+SevenUnused = (f : Refusal) → (refusal_number f ≡ 7) → ⊥
+
+-- 02, R-6: in any order of time a list passes row by row exactly where each of its rows passes the test
+abbrev pub VerdictAll : Type 0
+VerdictAll = (test : Row → Bool) (rs : List Row) (i last : ℕ)
+    → ((verdict_by (in_any_order test) rs i last ≡ accepted) → All test rs) × (All test rs → verdict_by (in_any_order test) rs i last ≡ accepted)
 
 -- ten numbers a block
 abbrev pub BlockNumbersLength : Type 0

@@ -1,19 +1,25 @@
 -- What the reader's functions promise: `ReadAs`, and what the private ones do towards it. 02, R-6.
 use Rattle.std.specs.Prelude.{◌≡◌, ℕ, ◌+◌, ◌*◌, ◌≤◌, Bool, true, false, cond, List, [], length, drop, leb, ltb}
 use Rattle.std.proofs.lemmas.List.Edits.{sets}
-use Rattle.rows.specs.declared.fault.Fault.TheVariants.{TooLong, NoRoom, BadSummary}
-use Rattle.rows.specs.Fault.{number_of}
 use Rattle.rows.specs.Row.{over}
 use Rattle.summary.specs.declared.Block.{Block}
 use Rattle.summary.specs.declared.reader.Answer.{Answer}
 use Rattle.summary.specs.declared.reader.Answer.TheVariants.{Rows, Refused}
 use Rattle.summary.specs.declared.reader.Counted.{Counted}
 use Rattle.summary.specs.declared.reader.Counted.TheVariants as counted
+use Rattle.summary.specs.declared.reader.Refusal.{Refusal}
+use Rattle.summary.specs.declared.reader.Refusal.TheVariants.{TooLong, NoRoom, BadSummary}
 use Rattle.summary.specs.declared.reader.SummaryNumbers.{SummaryNumbers}
 use Rattle.summary.specs.declared.reader.Walked.{Walked}
 use Rattle.summary.specs.declared.reader.Walked.TheVariants as walked
 use Rattle.summary.specs.Blocks.{ten_of, tens_of}
 use Rattle.summary.specs.Fields.{fields_of, Held, held, none, blocks_from, held_in}
+
+-- 01, "Refusal numbers", and 02, R-6: the number of each refusal
+abbrev pub refusal_number : Refusal → ℕ
+refusal_number TooLong = 1
+refusal_number NoRoom = 2
+refusal_number BadSummary = 17
 
 -- 17 where no summary is held, then 2 where there is no room for ten numbers a block
 abbrev pub answer_in : Held → ℕ → Answer
@@ -41,7 +47,7 @@ pub record ReadAs (l old new : List ℕ) (r : Answer) : Type 0 where
 -- the answer as numbers: the number alone where it refuses
 abbrev pub summary_numbers : Answer → SummaryNumbers
 summary_numbers (Rows n) = record { refusal = 0; rows = n }
-summary_numbers (Refused f) = record { refusal = number_of f; rows = 0 }
+summary_numbers (Refused f) = record { refusal = refusal_number f; rows = 0 }
 
 -- the same promise of an answer as numbers
 pub record ReadNumbers (l old new : List ℕ) (r : SummaryNumbers) : Type 0 where

@@ -4,11 +4,12 @@ use Rattle.rows.specs.declared.fault.Writing.{Writing}
 use Rattle.rows.specs.declared.fault.WritingNumbers.{WritingNumbers}
 use Rattle.rows.specs.declared.row.Row.{Row}
 use Rattle.rows.specs.Row.{time_of, room_of, rows_of}
-use Rattle.rows.specs.Rules.{good_row, in_any_order, Verdict}
-use Rattle.rows.specs.Writers.{verdict_in, WroteBytes, WroteBytesNumbers}
+use Rattle.rows.specs.Rules.{good_row, Verdict}
 use Rattle.summary.specs.declared.Block.{Block}
 use Rattle.summary.specs.Blocks.{block_count, of_kind}
 use Rattle.summary.specs.Stored.{stored_of}
+use Rattle.summary.specs.Verdicts.{in_any_order}
+use Rattle.summary.specs.Writers.{verdict_in, WroteBytes, WroteBytesNumbers}
 
 -- 13, then 12 at the first row that is not good, whatever the order of times, then 2
 abbrev pub summary_verdict : List ℕ → ℕ → Verdict

@@ -13,7 +13,7 @@ ghost use Rattle.summary.specs.Blocks.{block_count};
 mod reader;
 mod writer;
 
-pub use reader::{Answer, SummaryNumbers, read};
+pub use reader::{Answer, Refusal, SummaryNumbers, read};
 pub use writer::write;
 
 // What is kept of a block of rows: four times in microseconds, and the number of rows of each kind, 1 to 6. No good row is a

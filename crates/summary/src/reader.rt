@@ -3,17 +3,27 @@ ghost use Rattle.std.specs.Prelude.{◌≡◌, ◌+◌, ◌≤◌, length, take,
 ghost use Rattle.std.proofs.lemmas.List.Edits.{sets};
 ghost use Rattle.words.specs.Words.{value};
 ghost use Rattle.summary.specs.Fields.{fields_of, field_front, block_from, adds_up, blocks_from};
-ghost use Rattle.summary.specs.Reader.{summary_numbers, CountedAs, WalkedAs, PutTen, BlocksRead, ReadAs};
+ghost use Rattle.summary.specs.Reader.{refusal_number, summary_numbers, CountedAs, WalkedAs, PutTen, BlocksRead, ReadAs};
 
 use crate::{Block, block_count, least};
-use rows::Fault;
 use words::{word16, word32, word64};
+
+// Why bytes are refused.
+#[derive(Clone, Copy)]
+pub enum Refusal {
+    // 1: the input is longer than 1,073,741,824 bytes.
+    TooLong,
+    // 2: the numbers of the blocks do not fit the lent slice.
+    NoRoom,
+    // 17: a bad summary.
+    BadSummary,
+}
 
 // The row count of a stored summary, or a refusal.
 #[derive(Clone, Copy)]
 pub enum Answer {
     Rows(usize),
-    Refused(Fault),
+    Refused(Refusal),
 }
 
 // The answer as two numbers: refusal 0 and the row count, or the refusal and 0.
@@ -48,6 +58,19 @@ pub enum Walked {
     Faulty,
 }
 
+impl Refusal {
+    // The number of a refusal.
+    pub fn number(self) -> u64
+        ensures { result ≡ refusal_number self }
+    {
+        match self {
+            Refusal::TooLong => 1,
+            Refusal::NoRoom => 2,
+            Refusal::BadSummary => 17,
+        }
+    }
+}
+
 impl Answer {
     // The answer as numbers.
     pub fn numbers(self) -> SummaryNumbers
@@ -58,8 +81,8 @@ impl Answer {
                 refusal: 0,
                 rows: rows as u64,
             },
-            Answer::Refused(fault) => SummaryNumbers {
-                refusal: fault.number(),
+            Answer::Refused(refusal) => SummaryNumbers {
+                refusal: refusal.number(),
                 rows: 0,
             },
         }
@@ -257,10 +280,10 @@ fn read_blocks(bytes: &[u8], from: usize, rows: usize, blocks: &mut [u64]) -> An
 {
     let walked = walk(bytes, from, rows, blocks, false);
     match walked {
-        Walked::Faulty => Answer::Refused(Fault::BadSummary),
+        Walked::Faulty => Answer::Refused(Refusal::BadSummary),
         Walked::Blocks(many) => {
             if blocks.len() / 10 < many {
-                return Answer::Refused(Fault::NoRoom);
+                return Answer::Refused(Refusal::NoRoom);
             }
             walk(bytes, from, rows, blocks, true);
             Answer::Rows(rows)
@@ -274,11 +297,11 @@ pub fn read(bytes: &[u8], blocks: &mut [u64]) -> Answer
     ensures { ReadAs bytes.now blocks.old blocks.new result }
 {
     if 1073741824 < bytes.len() {
-        return Answer::Refused(Fault::TooLong);
+        return Answer::Refused(Refusal::TooLong);
     }
     let counted = find_count(bytes);
     match counted {
         Counted::Found { rows, next } => read_blocks(bytes, next, rows, blocks),
-        Counted::Faulty => Answer::Refused(Fault::BadSummary),
+        Counted::Faulty => Answer::Refused(Refusal::BadSummary),
     }
 }

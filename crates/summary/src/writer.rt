@@ -2,11 +2,12 @@
 ghost use Rattle.std.specs.Prelude.{◌≡◌, cond, ◌++◌, ◌+◌, ◌-◌, ◌*◌, ◌≤◌, ◌<◌, max, length, eqb};
 ghost use Rattle.std.proofs.lemmas.List.Edits.{sets};
 ghost use Rattle.rows.specs.Row.{room_of, row_from, rows_from, rows_of};
-ghost use Rattle.rows.specs.Rules.{good_row, in_any_order, verdict_by};
-ghost use Rattle.rows.specs.Writers.{writing_of};
+ghost use Rattle.rows.specs.Rules.{good_row};
 ghost use Rattle.words.specs.Words.{bytes_of, bytes_of_all};
+ghost use Rattle.words.specs.Writer.{writing_of};
 ghost use Rattle.summary.specs.Blocks.{times_of, kinds_of, block_of, summary_of};
 ghost use Rattle.summary.specs.Stored.{field, block_bytes, block_fields, stored_of};
+ghost use Rattle.summary.specs.Verdicts.{verdict_by, in_any_order};
 ghost use Rattle.summary.specs.Writer.{Few, Within, Ready, add_row, WroteSummary};
 
 use crate::{Block, block_count, least};

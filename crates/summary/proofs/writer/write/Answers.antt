@@ -6,11 +6,12 @@ use lib.ListN.{length}
 use Prim.Native.Nat.{ℕ}
 use Rattle.rows.specs.declared.fault.Writing.TheVariants.{Written}
 use Rattle.rows.specs.Row.{rows_of}
-use Rattle.rows.specs.Rules.{good_row, in_any_order, good_length}
+use Rattle.rows.specs.Rules.{good_row, good_length}
 use Rattle.rows.proofs.Judging.{few_rows}
-use Rattle.rows.proofs.Writers.{wrote_bad_list, wrote_refused, count_same, wrote_full, wrote_all}
 use Rattle.summary.specs.Stored.{stored_of}
+use Rattle.summary.specs.Verdicts.{in_any_order}
 use Rattle.summary.proofs.RowsJudged.{stored_bytes}
+use Rattle.summary.proofs.Writers.{wrote_bad_list, wrote_refused, count_same, wrote_full, wrote_all}
 use Rattle.summary.proofs.writer.write.Goals as goal
 use Rattle.summary.proofs.writer.write.Goals.{After-count-counted}
 

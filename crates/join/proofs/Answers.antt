@@ -25,37 +25,37 @@ pub data Answers (n : ℕ) (sure : Bool) (joined full : Given) : Type 0 where
   none : joined ≡ gives [] → sure ≡ false → Answers n sure joined full
 
 -- both give nothing unless something is known, and what the joined reader knows the full reader knows
-if-known : {n : ℕ} (sure : Bool) (joined full : Given) (a b : Bool) → (a ≡ true → b ≡ true) → (a ≡ true → full ≡ later_given n joined) → (sure ≡ true → a ≡ true)
+if_known : {n : ℕ} (sure : Bool) (joined full : Given) (a b : Bool) → (a ≡ true → b ≡ true) → (a ≡ true → full ≡ later_given n joined) → (sure ≡ true → a ≡ true)
     → Answers n sure (cond a joined (gives [])) (cond b full (gives []))
-if-known sure joined full true true f g h = same (g refl)
-if-known sure joined full true false f g h = never (f refl)
-if-known true joined full false b f g h = never (h refl)
-if-known false joined full false b f g h = none refl refl
+if_known sure joined full true true f g h = same (g refl)
+if_known sure joined full true false f g h = never (f refl)
+if_known true joined full false b f g h = never (h refl)
+if_known false joined full false b f g h = none refl refl
 
 -- the words that give events
 module _ {n : ℕ} {seen : Seen} {s t : State} (h : Behind n s t) (c : Covers seen s) where
-  pub pixel-answers : (p : Picture) (w : ℕ) → Answers n (all_seen seen) (pixel_of p s w) (pixel_of p t w)
+  pub pixel_answers : (p : Picture) (w : ℕ) → Answers n (all_seen seen) (pixel_of p s w) (pixel_of p t w)
   unfolding pixel_of
-  pixel-answers p w =
-      if-known (all_seen seen) _ _ (s.known.time && s.known.y) (t.known.time && t.known.y)
-      (λ e. and_both _ _ (h.time (at-time e)).0 (h.y (at_y e)).0)
-      (λ e. given_later n p s t (field 11 1 w) (field 0 11 w ∷ []) (h.y (at_y e)).1 (h.y (at_y e)).2 (h.time (at-time e)).1)
+  pixel_answers p w =
+      if_known (all_seen seen) _ _ (s.known.time && s.known.y) (t.known.time && t.known.y)
+      (λ e. and_both _ _ (h.time (at_time e)).0 (h.y (at_y e)).0)
+      (λ e. given_later n p s t (field 11 1 w) (field 0 11 w ∷ []) (h.y (at_y e)).1 (h.y (at_y e)).2 (h.time (at_time e)).1)
       (λ e. and_both _ _ (c.time (is_low_lem seen e)) (c.y (is_y_lem seen e)))
     where
-      at-time : s.known.time && s.known.y ≡ true → s.known.time ≡ true
-      at-time e = and_first s.known.time _ e
+      at_time : s.known.time && s.known.y ≡ true → s.known.time ≡ true
+      at_time e = and_first s.known.time _ e
 
       at_y : s.known.time && s.known.y ≡ true → s.known.y ≡ true
       at_y e = and_second s.known.time _ e
 
-  pub vector-answers : (p : Picture) (bits : ℕ) → Answers n (all_seen seen) (vector_of p s bits) (vector_of p t bits)
+  pub vector_answers : (p : Picture) (bits : ℕ) → Answers n (all_seen seen) (vector_of p s bits) (vector_of p t bits)
   unfolding vector_of
-  vector-answers p bits =
-      if-known (all_seen seen) _ _ (s.known.time && s.known.y && s.known.base) (t.known.time && t.known.y && t.known.base)
-      (λ e. and_both _ _ (and_both _ _ (h.time (at-time e)).0 (h.y (at_y e)).0) (h.base (at_base_lem e)).0)
+  vector_answers p bits =
+      if_known (all_seen seen) _ _ (s.known.time && s.known.y && s.known.base) (t.known.time && t.known.y && t.known.base)
+      (λ e. and_both _ _ (and_both _ _ (h.time (at_time e)).0 (h.y (at_y e)).0) (h.base (at_base_lem e)).0)
       (λ e.
       ap₂ (λ (polarity base : ℕ). pixels p t polarity (columns 12 base bits)) (h.base (at_base_lem e)).2 (h.base (at_base_lem e)).1
-      ∙ given_later n p s t s.polarity (columns 12 s.base bits) (h.y (at_y e)).1 (h.y (at_y e)).2 (h.time (at-time e)).1)
+      ∙ given_later n p s t s.polarity (columns 12 s.base bits) (h.y (at_y e)).1 (h.y (at_y e)).2 (h.time (at_time e)).1)
       (λ e. and_both _ _ (and_both _ _ (c.time (is_low_lem seen e)) (c.y (is_y_lem seen e))) (c.base (is_base_lem seen e)))
     where
       at_base_lem : s.known.time && s.known.y && s.known.base ≡ true → s.known.base ≡ true
@@ -64,13 +64,13 @@ module _ {n : ℕ} {seen : Seen} {s t : State} (h : Behind n s t) (c : Covers se
       at_y : s.known.time && s.known.y && s.known.base ≡ true → s.known.y ≡ true
       at_y e = and_second s.known.time _ (and_first (s.known.time && s.known.y) _ e)
 
-      at-time : s.known.time && s.known.y && s.known.base ≡ true → s.known.time ≡ true
-      at-time e = and_first s.known.time _ (and_first (s.known.time && s.known.y) _ e)
+      at_time : s.known.time && s.known.y && s.known.base ≡ true → s.known.time ≡ true
+      at_time e = and_first s.known.time _ (and_first (s.known.time && s.known.y) _ e)
 
-  pub trigger-answers : (w : ℕ) → Answers n (all_seen seen) (trigger_of s w) (trigger_of t w)
+  pub trigger_answers : (w : ℕ) → Answers n (all_seen seen) (trigger_of s w) (trigger_of t w)
   unfolding trigger_of
-  trigger-answers w =
-      if-known (all_seen seen) _ _ s.known.time t.known.time (λ e. (h.time e).0)
+  trigger_answers w =
+      if_known (all_seen seen) _ _ s.known.time t.known.time (λ e. (h.time e).0)
       (λ e.
       ap (λ (x : ℕ). gives (trigger_row x (field 8 4 w) (field 0 1 w) ∷ [])) (h.time e).1
       ∙ ap (λ (r : Row). gives (r ∷ [])) (later_timed n 2 s.time (field 8 4 w) (field 0 1 w) 0 0 0 0 0))

@@ -20,7 +20,7 @@ use Rattle.evt3.specs.Words.{wraps_at, bad_high, time_high, pixel_of, vector_of,
 use Rattle.join.specs.declared.seen.Seen.{Seen}
 use Rattle.join.specs.Join.{later, Agrees}
 use Rattle.join.specs.Seen.{seen_with, all_seen}
-use Rattle.join.proofs.Answers.{Answers, same, none, pixel-answers, vector-answers, trigger-answers}
+use Rattle.join.proofs.Answers.{Answers, same, none, pixel_answers, vector_answers, trigger_answers}
 use Rattle.join.proofs.Behind.{Behind, high_behind, y_behind, base_behind, low_behind, moved_behind}
 use Rattle.join.proofs.Behind.{Covers, high_covers, y_covers, base_covers, low_covers, moved_covers}
 use Rattle.join.proofs.HighParts.{wraps_apart, not_bad, first_wraps, first_good}
@@ -114,12 +114,12 @@ module _ {n : ℕ} {seen : Seen} {s t : State} (h : Behind n s t) (c : Covers se
       stepped (y_behind h (field 0 11 w) (field 11 1 w)) (y_covers c (field 0 11 w) (field 11 1 w)) (gives []) (gives []) (same refl) e
   kind_stepped VectBaseX p w first e =
       stepped (base_behind h (field 0 11 w) (field 11 1 w)) (base_covers c (field 0 11 w) (field 11 1 w)) (gives []) (gives []) (same refl) e
-  kind_stepped AddrX p w first e = stepped h c (pixel_of p s w) (pixel_of p t w) (pixel-answers h c p w) e
+  kind_stepped AddrX p w first e = stepped h c (pixel_of p s w) (pixel_of p t w) (pixel_answers h c p w) e
   kind_stepped Vect12 p w first e =
-      stepped (moved_behind h 12) (moved_covers c 12) (vector_of p s (field 0 12 w)) (vector_of p t (field 0 12 w)) (vector-answers h c p (field 0 12 w)) e
+      stepped (moved_behind h 12) (moved_covers c 12) (vector_of p s (field 0 12 w)) (vector_of p t (field 0 12 w)) (vector_answers h c p (field 0 12 w)) e
   kind_stepped Vect8 p w first e =
-      stepped (moved_behind h 8) (moved_covers c 8) (vector_of p s (field 0 8 w)) (vector_of p t (field 0 8 w)) (vector-answers h c p (field 0 8 w)) e
-  kind_stepped ExtTrigger p w first e = stepped h c (trigger_of s w) (trigger_of t w) (trigger-answers h c w) e
+      stepped (moved_behind h 8) (moved_covers c 8) (vector_of p s (field 0 8 w)) (vector_of p t (field 0 8 w)) (vector_answers h c p (field 0 8 w)) e
+  kind_stepped ExtTrigger p w first e = stepped h c (trigger_of s w) (trigger_of t w) (trigger_answers h c w) e
   kind_stepped Continued4 p w first e = stepped h c (gives []) (gives []) (same refl) e
   kind_stepped Others p w first e = stepped h c (gives []) (gives []) (same refl) e
   kind_stepped Continued12 p w first e = stepped h c (gives []) (gives []) (same refl) e

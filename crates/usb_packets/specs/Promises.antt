@@ -1,4 +1,4 @@
--- The laws of this crate, each proved in proofs/Kept.antt under the name in lower case.
+-- The laws of this crate, each proved in proofs/Kept.antt under the name in lower case (`PacketCases` as `packet_cases_lem`, since its cases have the name).
 use Rattle.std.specs.Prelude.{◌≡◌, ℕ, Bool, not, List, [], ◌∷◌, eqb}
 use Rattle.rows.specs.declared.fault.Fault.TheVariants.{NoRoom, Cut, Stray}
 use Rattle.rows.specs.declared.row.Row.{Row}

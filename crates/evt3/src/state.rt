@@ -149,6 +149,7 @@ impl State {
     }
 
     // After a vector of n columns: a known base moves on, and stops at 2,048.
+    #[tactic(auto, unfolding(crate::specs::State::moved))]
     fn moved(self, n: u16) -> State
         ensures { result ≡ moved n self }
     {

@@ -33,9 +33,9 @@ row_timed r h =
 
 module _ (r : Row) (good : good_row r ≡ true) (narrow : r.low < 4294967296) where
   -- the rules of the row's own kind hold
-  of_kind_lem : {k : ℕ} (kind : Kind) → r.kind ≡ k → kind_of k ≡ kind → good_as kind r ≡ true
+  of_kind : {k : ℕ} (kind : Kind) → r.kind ≡ k → kind_of k ≡ kind → good_as kind r ≡ true
   unfolding good_row
-  of_kind_lem kind e f = subst (λ (x : Kind). good_as x r ≡ true) f (subst (λ (n : ℕ). good_as (kind_of n) r ≡ true) e good)
+  of_kind kind e f = subst (λ (x : Kind). good_as x r ≡ true) f (subst (λ (n : ℕ). good_as (kind_of n) r ≡ true) e good)
 
   in_time : timely r ≡ true → time_of r < 17179869184
   in_time e = ltb-true _ _ e
@@ -44,7 +44,7 @@ module _ (r : Row) (good : good_row r ≡ true) (narrow : r.low < 4294967296) wh
       × (r.a < 32768) × (r.b < 32768) × (r.c < 2) × (r.d < 2)
   unfolding good_as kind_of
   pixel_made k =
-      let all : timely r && below 32768 (r.a ∷ r.b ∷ []) && below 2 (r.c ∷ r.d ∷ []) && unused (r.e ∷ r.f ∷ r.g ∷ []) ≡ true = of_kind_lem Pixel k refl in
+      let all : timely r && below 32768 (r.a ∷ r.b ∷ []) && below 2 (r.c ∷ r.d ∷ []) && unused (r.e ∷ r.f ∷ r.g ∷ []) ≡ true = of_kind Pixel k refl in
       let three = and_first (timely r && below 32768 (r.a ∷ r.b ∷ []) && below 2 (r.c ∷ r.d ∷ [])) _ all in
       let two = and_first (timely r && below 32768 (r.a ∷ r.b ∷ [])) _ three in
       let zero = unused_each (r.e ∷ r.f ∷ r.g ∷ []) (and_second (timely r && below 32768 (r.a ∷ r.b ∷ []) && below 2 (r.c ∷ r.d ∷ [])) _ all) in
@@ -66,13 +66,13 @@ module _ (r : Row) (good : good_row r ≡ true) (narrow : r.low < 4294967296) wh
   trigger_made : r.kind ≡ 2 → (r ≡ trigger_row (time_of r) r.a r.b) × (time_of r < 17179869184) × (r.a < 32) × (r.b < 2)
   unfolding good_as kind_of
   trigger_made k =
-      let made = pair_made 32 2 (of_kind_lem Trigger k refl) in
+      let made = pair_made 32 2 (of_kind Trigger k refl) in
       (row_timed r narrow ∙ cc, made.0, made.1, made.2)
 
   special_made : r.kind ≡ 6 → (r ≡ special_row (time_of r) r.a r.b) × (time_of r < 17179869184) × (r.a < 128) × (r.b < 16777216)
   unfolding good_as kind_of
   special_made k =
-      let made = pair_made 128 16777216 (of_kind_lem Special k refl) in
+      let made = pair_made 128 16777216 (of_kind Special k refl) in
       (row_timed r narrow ∙ cc, made.0, made.1, made.2)
 
   counts_made : r.kind ≡ 3 → (r ≡ counts_row (time_of r) r.a r.b r.c r.d r.e r.f) × (time_of r < 17179869184)
@@ -80,7 +80,7 @@ module _ (r : Row) (good : good_row r ≡ true) (narrow : r.low < 4294967296) wh
   unfolding good_as kind_of
   counts_made k =
       let six : List ℕ = r.a ∷ r.b ∷ r.c ∷ r.d ∷ r.e ∷ r.f ∷ [] in
-      let all : timely r && below 65536 six && unused (r.g ∷ []) ≡ true = of_kind_lem ImuCounts k refl in
+      let all : timely r && below 65536 six && unused (r.g ∷ []) ≡ true = of_kind ImuCounts k refl in
       let two = and_first (timely r && below 65536 six) _ all in
       let zero = unused_each (r.g ∷ []) (and_second (timely r && below 65536 six) _ all) in
       let small = below_each 65536 six (and_second (timely r) _ two) in
@@ -88,7 +88,7 @@ module _ (r : Row) (good : good_row r ≡ true) (narrow : r.low < 4294967296) wh
 
   singles_made : r.kind ≡ 4 → (r ≡ singles_row (time_of r) r.a r.b r.c r.d r.e r.f r.g) × (time_of r < 17179869184)
   unfolding good_as kind_of
-  singles_made k = (row_timed r narrow ∙ cc, in_time (of_kind_lem ImuSingles k refl))
+  singles_made k = (row_timed r narrow ∙ cc, in_time (of_kind ImuSingles k refl))
 
   pub good_made : GoodMade r
   good_made =

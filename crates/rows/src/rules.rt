@@ -122,6 +122,7 @@ pub fn good_length(rows: &[u32]) -> bool
 // One row of a list to be written, by the rules of the kind that the caller names, after a row of the time `last`: 12 where it
 // breaks them or the format cannot write it, then 5 where its time is below `last`. A format that has matched on the row's kind
 // names it, and the answer is then `judged_of`.
+#[tactic(auto, unfolding(crate::specs::Rules::judged_as))]
 pub fn judge(kind: Kind, row: Row, writable: bool, last: u64) -> Judged
     ensures { result ≡ judged_as kind writable row last }
 {

@@ -12,7 +12,7 @@ use Rattle.rows.specs.declared.fault.Fault.{Fault}
 use Rattle.rows.specs.declared.fault.Fault.TheVariants.{BadTime, BadRow, BadList}
 use Rattle.rows.specs.declared.row.Row.{Row}
 use Rattle.rows.specs.declared.rules.Kind.{Kind}
-use Rattle.rows.specs.declared.rules.Judged.TheVariants.{Time, Refused}
+use Rattle.std.specs.Prelude.{Ok, Err}
 use Rattle.rows.specs.Row.{time_of, room_of, row_from, rows_from, rows_of}
 use Rattle.rows.specs.Rules.{kind_of, good_as, good_row, judged_by, judged_as, judged_of, accepted, refused, verdict_then, verdict_from, good_length, verdict_of, Writable}
 use Rattle.rows.proofs.GoodRows.{and_first, and_second}
@@ -31,16 +31,16 @@ module _ (r : Row) {answer good : Bool} (writable : Bool) (last : ℕ) (e : answ
   joined : {b : Bool} → answer && writable ≡ b → good && writable ≡ b
   joined {b} h = subst (λ (g : Bool). g && writable ≡ b) e h
 
-  pub judged_bad : answer && writable ≡ false → Refused BadRow ≡ judged_by good writable r last
+  pub judged_bad : answer && writable ≡ false → Err BadRow ≡ judged_by good writable r last
   judged_bad h = simp (joined h)
 
   -- where both are so, by its time t
   module _ {t : ℕ} (h : answer && writable ≡ true) (is : t ≡ time_of r) where
-    pub judged_back : t < last → Refused BadTime ≡ judged_by good writable r last
+    pub judged_back : t < last → Err BadTime ≡ judged_by good writable r last
     judged_back l = simp (joined h, lt-ltb (time_of r) last (subst (λ (k : ℕ). k < last) is l))
 
-    pub judged_time : last ≤ t → Time t ≡ judged_by good writable r last
-    judged_time l = simp (joined h, le-ltb (time_of r) last (subst (λ (k : ℕ). last ≤ k) is l)) (ap Time is)
+    pub judged_time : last ≤ t → Ok t ≡ judged_by good writable r last
+    judged_time l = simp (joined h, le-ltb (time_of r) last (subst (λ (k : ℕ). last ≤ k) is l)) (ap Ok is)
 
 -- the rules of a row's own kind are those of the row
 judged_own : (r : Row) (writable : Bool) (last : ℕ) {k : Kind} → kind_of r.kind ≡ k → judged_as k writable r last ≡ judged_of writable r last
@@ -48,11 +48,11 @@ unfolding judged_as judged_of good_row
 judged_own r writable last e = ap (λ (k : Kind). judged_by (good_as k r) writable r last) (sym e)
 
 -- a row that the format cannot write
-judged_unwritable : (r : Row) (last : ℕ) → Refused BadRow ≡ judged_of false r last
+judged_unwritable : (r : Row) (last : ℕ) → Err BadRow ≡ judged_of false r last
 unfolding judged_of
 judged_unwritable r last = go (good_row r)
   where
-    go : (g : Bool) → Refused BadRow ≡ judged_by g false r last
+    go : (g : Bool) → Err BadRow ≡ judged_by g false r last
     go true = refl
     go false = refl
 
@@ -64,40 +64,40 @@ module _ (can : Kind → Row → Bool) (r : Row) (last : ℕ) {k : Kind} (is : k
   pub judged_kind : {w : Bool} → can k r ≡ w → judged_as k w r last ≡ judged_of (can (kind_of r.kind) r) r last
   judged_kind {w} e = judged_own r w last is ∙ ap (λ (t : Bool). judged_of t r last) (same_can e)
 
-  pub judged_wordless : can k r ≡ false → Refused BadRow ≡ judged_of (can (kind_of r.kind) r) r last
+  pub judged_wordless : can k r ≡ false → Err BadRow ≡ judged_of (can (kind_of r.kind) r) r last
   judged_wordless e = judged_unwritable r last ∙ ap (λ (t : Bool). judged_of t r last) (same_can e)
 
   -- and one that breaks the rules of its kind
-  pub judged_broken : good_as k r ≡ false → Refused BadRow ≡ judged_of (can (kind_of r.kind) r) r last
+  pub judged_broken : good_as k r ≡ false → Err BadRow ≡ judged_of (can (kind_of r.kind) r) r last
   unfolding judged_as
   judged_broken e = ap (λ (g : Bool). judged_by g (can k r) r last) (sym e) ∙ judged_kind refl
 
 -- and a row that is not refused has that time
-pub judged_is_time : (writable : Bool) (r : Row) (last : ℕ) {t : ℕ} → Time t ≡ judged_of writable r last → t ≡ time_of r
+pub judged_is_time : (writable : Bool) (r : Row) (last : ℕ) {t : ℕ} → Ok t ≡ judged_of writable r last → t ≡ time_of r
 unfolding judged_of
 judged_is_time writable r last {t} e = go (good_row r && writable) (ltb (time_of r) last) e
   where
-    go : (g b : Bool) → Time t ≡ cond g (cond b (Refused BadTime) (Time (time_of r))) (Refused BadRow) → t ≡ time_of r
+    go : (g b : Bool) → Ok t ≡ cond g (cond b (Err BadTime) (Ok (time_of r))) (Err BadRow) → t ≡ time_of r
     go true true f = let z : ◌≡◌ {A = ℕ} 0 1 = cc in absurd (omega arith)
     go true false f = cc
     go false b f = let z : ◌≡◌ {A = ℕ} 0 1 = cc in absurd (omega arith)
 
 -- and its time is not below the last
-pub judged_later : (writable : Bool) (r : Row) (last : ℕ) {t : ℕ} → Time t ≡ judged_of writable r last → last ≤ t
+pub judged_later : (writable : Bool) (r : Row) (last : ℕ) {t : ℕ} → Ok t ≡ judged_of writable r last → last ≤ t
 unfolding judged_of
 judged_later writable r last {t} e = go (good_row r && writable) (ltb (time_of r) last) refl e
   where
-    go : (g b : Bool) → ltb (time_of r) last ≡ b → Time t ≡ cond g (cond b (Refused BadTime) (Time (time_of r))) (Refused BadRow) → last ≤ t
+    go : (g b : Bool) → ltb (time_of r) last ≡ b → Ok t ≡ cond g (cond b (Err BadTime) (Ok (time_of r))) (Err BadRow) → last ≤ t
     go true true h f = let z : ◌≡◌ {A = ℕ} 0 1 = cc in absurd (omega arith)
     go true false h f = let same : t ≡ time_of r = cc in omega (arith, ltb-false (time_of r) last h)
     go false b h f = let z : ◌≡◌ {A = ℕ} 0 1 = cc in absurd (omega arith)
 
 -- and it is good, and the format can write it
-pub judged_good : (writable : Bool) (r : Row) (last : ℕ) {t : ℕ} → Time t ≡ judged_of writable r last → (good_row r ≡ true) × (writable ≡ true)
+pub judged_good : (writable : Bool) (r : Row) (last : ℕ) {t : ℕ} → Ok t ≡ judged_of writable r last → (good_row r ≡ true) × (writable ≡ true)
 unfolding judged_of
 judged_good writable r last {t} e = go (good_row r) refl writable refl e
   where
-    go : (g : Bool) → good_row r ≡ g → (w : Bool) → writable ≡ w → Time t ≡ judged_by g w r last → (good_row r ≡ true) × (writable ≡ true)
+    go : (g : Bool) → good_row r ≡ g → (w : Bool) → writable ≡ w → Ok t ≡ judged_by g w r last → (good_row r ≡ true) × (writable ≡ true)
     go true p true q f = (p, q)
     go true p false q f = let z : ◌≡◌ {A = ℕ} 0 1 = cc in absurd (omega arith)
     go false p w q f = let z : ◌≡◌ {A = ℕ} 0 1 = cc in absurd (omega arith)
@@ -171,9 +171,9 @@ module _ (writable : Row → Bool) where
           let e : room_of l - i ≡ suc (room_of l - suc i) = omega arith in
           h.same ∙ ap (λ (k : ℕ). verdict_from writable (rows_from l i k) i last) e
 
-      pub judging_next : {t : ℕ} → Time t ≡ judged_of (writable (row_from l (i * 10))) (row_from l (i * 10)) last → Judging l (i + 1) t
+      pub judging_next : {t : ℕ} → Ok t ≡ judged_of (writable (row_from l (i * 10))) (row_from l (i * 10)) last → Judging l (i + 1) t
       judging_next {t} e = rw (add-one i) (record { same = here ∙ rw (sym e); within = f })
 
-      pub judging_refused : {fault : Fault} → Refused fault ≡ judged_of (writable (row_from l (i * 10))) (row_from l (i * 10)) last
+      pub judging_refused : {fault : Fault} → Err fault ≡ judged_of (writable (row_from l (i * 10))) (row_from l (i * 10)) last
           → verdict_from writable (rows_of l) 0 0 ≡ refused fault i
       judging_refused e = here ∙ rw (sym e)

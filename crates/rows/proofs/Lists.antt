@@ -11,7 +11,7 @@ use lib.Dec.{ltb}
 use lib.Seq.{drop-cons, drop-drop, take-add, take_all, get_or-append-add}
 use borrow.Author.Tests.{ltb-true, ltb-false}
 use Rattle.rows.specs.declared.row.Row.{Row}
-use Rattle.rows.specs.declared.row.RowAt.TheVariants.{Found, Nothing}
+use Rattle.std.specs.Prelude.{Some, None}
 use Rattle.rows.specs.Row.{numbers, flat, Narrow, room_of, row_from, row_at, rows_from, rows_of}
 use Rattle.rows.proofs.Stored.{flat_length}
 
@@ -126,16 +126,16 @@ rest_all l = let e : room_of l ≡ room_of l - 0 = omega arith in ap (rows_from 
 
 -- what `rows::get` found of a list
 module _ (l : List ℕ) (i : ℕ) where
-  pub row_found : {r : Row} → Found r ≡ row_at l i → (i < room_of l) × (r ≡ row_from l (i * 10))
+  pub row_found : {r : Row} → Some r ≡ row_at l i → (i < room_of l) × (r ≡ row_from l (i * 10))
   row_found {r} e = go (ltb i (room_of l)) refl e
     where
-      go : (t : Bool) → ltb i (room_of l) ≡ t → Found r ≡ cond t (Found (row_from l (i * 10))) Nothing → (i < room_of l) × (r ≡ row_from l (i * 10))
+      go : (t : Bool) → ltb i (room_of l) ≡ t → Some r ≡ cond t (Some (row_from l (i * 10))) None → (i < room_of l) × (r ≡ row_from l (i * 10))
       go true f g = (ltb-true _ _ f, cc)
       go false f g = let z : ◌≡◌ {A = ℕ} 0 1 = cc in absurd (omega arith)
 
-  pub row_past : Nothing ≡ row_at l i → room_of l ≤ i
+  pub row_past : None ≡ row_at l i → room_of l ≤ i
   row_past e = go (ltb i (room_of l)) refl e
     where
-      go : (t : Bool) → ltb i (room_of l) ≡ t → Nothing ≡ cond t (Found (row_from l (i * 10))) Nothing → room_of l ≤ i
+      go : (t : Bool) → ltb i (room_of l) ≡ t → None ≡ cond t (Some (row_from l (i * 10))) None → room_of l ≤ i
       go true f g = let z : ◌≡◌ {A = ℕ} 0 1 = cc in absurd (omega arith)
       go false f g = ltb-false _ _ f

@@ -8,8 +8,8 @@ use lib.Seq.{sets, length-sets}
 use borrow.Author.Tests.{le-leb, lt-leb}
 use Rattle.rows.specs.declared.fault.Fault.{Fault}
 use Rattle.rows.specs.declared.fault.Fault.TheVariants.{NoRoom}
-use Rattle.rows.specs.declared.fault.Reading.{Reading}
-use Rattle.rows.specs.declared.fault.Reading.TheVariants as reading
+use Rattle.std.specs.Prelude.{Result, Err}
+use Rattle.rows.specs.declared.fault.ReadError.{ReadError}
 use Rattle.rows.specs.declared.fault.ReadingNumbers.{ReadingNumbers}
 use Rattle.rows.specs.declared.row.Row.{Row}
 use Rattle.rows.specs.Fault.{reading_numbers}
@@ -116,7 +116,7 @@ module _ {S : Type 0} {whole : Run S} {old : List ℕ} {e : Ending S} {n : ℕ} 
   did_length {n₀} d = ap length d.wrote ∙ length-sets old (n₀ * 10) (flat whole.rows)
 
   -- read from the front of the buffer, that is a reader's promise
-  pub did_reads : {r : Reading} → Did whole old 0 e n new → r ≡ answer_of e n → ReadAs whole old new r
+  pub did_reads : {r : Result ℕ ReadError} → Did whole old 0 e n new → r ≡ answer_of e n → ReadAs whole old new r
   did_reads d q =
       let count : n ≡ length whole.rows = omega (arith, d.count) in
       record {
@@ -125,10 +125,10 @@ module _ {S : Type 0} {whole : Run S} {old : List ℕ} {e : Ending S} {n : ℕ} 
       }
 
 -- and of the answer as numbers
-pub reads_numbers : {S : Type 0} {whole : Run S} {old new : List ℕ} {x : Reading} {r : ReadingNumbers}
+pub reads_numbers : {S : Type 0} {whole : Run S} {old new : List ℕ} {x : Result ℕ ReadError} {r : ReadingNumbers}
     → ReadAs whole old new x → r ≡ reading_numbers x → ReadNumbers whole old new r
 reads_numbers h e = record { answer = e ∙ ap reading_numbers h.answer; wrote = h.wrote }
 
 -- refused before the first row
-pub reads_refused : {S : Type 0} (f : Fault) (place : ℕ) {old : List ℕ} → ReadAs {S = S} (stopped (refused f place)) old old (reading.Refused f 0 place)
+pub reads_refused : {S : Type 0} (f : Fault) (place : ℕ) {old : List ℕ} → ReadAs {S = S} (stopped (refused f place)) old old (Err (record { fault = f; rows = 0; place = place }))
 reads_refused f place = record { answer = refl; wrote = refl }

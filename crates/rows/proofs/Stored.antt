@@ -8,6 +8,8 @@ use mathlib.Core.List.{List, [], ◌∷◌, ◌++◌}
 use lib.ListN.{length, take, drop, set}
 use lib.Seq.{sets, length-sets, sets-eq, paste, take-length}
 use lib.Dec.{ltb}
+use borrow.Rule.Slice.PartMut.{put_mid}
+use Rattle.std.proofs.lemmas.Slice.{put_mid-paste}
 use borrow.Author.Tests.{lt-ltb, le-ltb, ltb-true, ltb-false}
 use Rattle.rows.specs.declared.row.Row.{Row}
 use Rattle.rows.specs.Row.{numbers, flat, over, room_of, PutRow}
@@ -37,6 +39,10 @@ sets_over vs l h =
 pub paste_all : (l : List ℕ) (at : ℕ) (s : List ℕ) (k : ℕ) → k ≤ length s → length s ≤ k → at + length s ≤ length l → paste l at s k ≡ sets l at s
 paste_all l at s k h g f =
     ap (paste l at s) (le_antisymm h g) ∙ ap (λ (t : List ℕ). take at l ++ t ++ drop (at + length s) l) (take-length s) ∙ sym (sets-eq s l at f)
+
+-- what a write of all of s to the part of l from a place on leaves, `held` being what the part then holds
+pub part_written : (l : List ℕ) (at k : ℕ) (held s : List ℕ) → held ≡ s → k ≡ length s → at + length s ≤ length l → put_mid at k l held ≡ sets l at s
+part_written l at k held s e h f = put_mid-paste at k l held s (length s) e (sym h) refl ∙ paste_all l at s (length s) (omega arith) (omega arith) f
 
 module _ {old : List ℕ} {i : ℕ} {row : Row} where
   pub put_row_none : room_of old ≤ i → PutRow old i row old false

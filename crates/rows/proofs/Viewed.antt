@@ -5,9 +5,8 @@ use native.Mathlib.Omega.{arith}
 use mathlib.Core.List.{List}
 use lib.ListN.{length}
 use Rattle.rows.specs.declared.row.Row.{Row}
-use Rattle.rows.specs.declared.fault.Fault.{Fault}
-use Rattle.rows.specs.declared.fault.Reading.{Reading}
-use Rattle.rows.specs.declared.fault.Reading.TheVariants.{Finished, Refused}
+use Rattle.std.specs.Prelude.{Result, Ok, Err}
+use Rattle.rows.specs.declared.fault.ReadError.{ReadError}
 use Rattle.rows.specs.Runs.{Ending, finished, refused, Run, ending_as, run_as, ending_from, run_from, EndsWithin, answer_of, ReadAs, Finishes}
 
 -- the answer does not tell the state
@@ -15,7 +14,7 @@ answer_as : {S T : Type 0} (f : S → T) (e : Ending S) (n : ℕ) → answer_of 
 answer_as f (finished s) n = refl
 answer_as f (refused fault place) n = refl
 
-pub reads_as : {S T : Type 0} (f : S → T) {run : Run S} {old new : List ℕ} {r : Reading} → ReadAs run old new r → ReadAs (run_as f run) old new r
+pub reads_as : {S T : Type 0} (f : S → T) {run : Run S} {old new : List ℕ} {r : Result ℕ ReadError} → ReadAs run old new r → ReadAs (run_as f run) old new r
 reads_as f {run} h = record { answer = h.answer ∙ answer_as f run.ending (length run.rows); wrote = h.wrote }
 
 pub as_within : {S T : Type 0} (f : S → T) (e : Ending S) (bytes : ℕ) → EndsWithin e bytes → EndsWithin (ending_as f e) bytes
@@ -23,25 +22,25 @@ as_within f (finished s) bytes h = tt
 as_within f (refused fault place) bytes h = h
 
 -- an answer of what lies from a place on, and what is answered of the whole
-abbrev pub answer_from : ℕ → Reading → Reading
-answer_from at (Finished n) = Finished n
-answer_from at (Refused f n place) = Refused f n (at + place)
+abbrev pub answer_from : ℕ → Result ℕ ReadError → Result ℕ ReadError
+answer_from at (Ok n) = Ok n
+answer_from at (Err e) = Err (record { fault = e.fault; rows = e.rows; place = at + e.place })
 
 answer_from_lem : {S : Type 0} (at : ℕ) (e : Ending S) (n : ℕ) → answer_from at (answer_of e n) ≡ answer_of (ending_from at e) n
 answer_from_lem at (finished s) n = refl
 answer_from_lem at (refused f place) n = refl
 
-module _ {S : Type 0} {run : Run S} {old new : List ℕ} {r : Reading} (h : ReadAs run old new r) where
-  pub reads_from : (at : ℕ) {x : Reading} → r ≡ x → ReadAs (run_from at run) old new (answer_from at x)
+module _ {S : Type 0} {run : Run S} {old new : List ℕ} {r : Result ℕ ReadError} (h : ReadAs run old new r) where
+  pub reads_from : (at : ℕ) {x : Result ℕ ReadError} → r ≡ x → ReadAs (run_from at run) old new (answer_from at x)
   reads_from at e = record { answer = ap (answer_from at) (sym e ∙ h.answer) ∙ answer_from_lem at run.ending (length run.rows); wrote = h.wrote }
 
   -- the place of an answer where the run's lies in the input
-  pub reads_place : (bytes : ℕ) → EndsWithin run.ending bytes → {f : Fault} {n place : ℕ} → r ≡ Refused f n place → place ≤ bytes
-  reads_place bytes w {f} {n} {place} e = go run.ending (length run.rows) w (sym e ∙ h.answer)
+  pub reads_place : (bytes : ℕ) → EndsWithin run.ending bytes → {x : ReadError} → r ≡ Err x → x.place ≤ bytes
+  reads_place bytes w {x} e = go run.ending (length run.rows) w (sym e ∙ h.answer)
     where
-      go : (d : Ending S) (k : ℕ) → EndsWithin d bytes → Refused f n place ≡ answer_of d k → place ≤ bytes
+      go : (d : Ending S) (k : ℕ) → EndsWithin d bytes → Err x ≡ answer_of d k → x.place ≤ bytes
       go (finished s) k v g = let z : ◌≡◌ {A = ℕ} 0 1 = cc in absurd (omega arith)
-      go (refused fault place') k v g = let z : place ≡ place' = cc in omega (arith, v)
+      go (refused fault place') k v g = let z : x ≡ record { fault = fault; rows = k; place = place' } = cc in rw z v
 
 pub from_within : {S : Type 0} (at : ℕ) (e : Ending S) (bytes all : ℕ) → EndsWithin e bytes → at + bytes ≤ all → EndsWithin (ending_from at e) all
 from_within at (finished s) bytes all h g = tt

@@ -1,9 +1,7 @@
 -- Rows: ten numbers each, one after the other in a list of numbers. 01, "Rows".
-use Rattle.std.specs.Prelude.{◌≡◌, ℕ, zero, suc, ◌+◌, ◌*◌, ◌/◌, ◌%◌, ◌<◌, Bool, true, cond, List, [], ◌∷◌, ◌++◌, length, drop, get_or, ltb}
+use Rattle.std.specs.Prelude.{◌≡◌, ℕ, zero, suc, ◌+◌, ◌*◌, ◌/◌, ◌%◌, ◌<◌, Bool, true, cond, List, [], ◌∷◌, ◌++◌, length, drop, get_or, ltb, Option, Some, None}
 use Rattle.std.proofs.lemmas.List.Edits.{sets}
 use Rattle.rows.specs.declared.row.Row.{Row}
-use Rattle.rows.specs.declared.row.RowAt.{RowAt}
-use Rattle.rows.specs.declared.row.RowAt.TheVariants.{Found, Nothing}
 
 -- a row's ten numbers: kind, time mod 2^32, time div 2^32, seven data numbers
 abbrev pub numbers : Row → List ℕ
@@ -43,8 +41,8 @@ row_from l at =
     }
 
 -- row i of a list, where the list has one
-abbrev pub row_at : List ℕ → ℕ → RowAt
-row_at l i = cond (ltb i (room_of l)) (Found (row_from l (i * 10))) Nothing
+abbrev pub row_at : List ℕ → ℕ → Option Row
+row_at l i = cond (ltb i (room_of l)) (Some (row_from l (i * 10))) None
 
 -- n rows of a list from row i on, and all the rows of a list
 unfoldable pub rows_from : List ℕ → ℕ → ℕ → List Row

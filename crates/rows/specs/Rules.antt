@@ -1,12 +1,10 @@
 -- The row rules: which rows are good, and the verdict of a list that is to be written. 01, "Rows" and "Refusal numbers".
-use Rattle.std.specs.Prelude.{◌≡◌, ℕ, suc, ◌/◌, ◌%◌, ◌≤◌, Bool, true, false, cond, ◌&&◌, List, [], ◌∷◌, length, leb, ltb, eqb}
+use Rattle.std.specs.Prelude.{◌≡◌, ℕ, suc, ◌/◌, ◌%◌, ◌≤◌, Bool, true, false, cond, ◌&&◌, List, [], ◌∷◌, length, leb, ltb, eqb, Result, Ok, Err}
 use Rattle.rows.specs.declared.fault.Fault.{Fault}
 use Rattle.rows.specs.declared.fault.Fault.TheVariants.{BadTime, BadRow, BadList}
 use Rattle.rows.specs.declared.row.Row.{Row}
 use Rattle.rows.specs.declared.rules.Kind.{Kind}
 use Rattle.rows.specs.declared.rules.Kind.TheVariants.{Pixel, Trigger, ImuCounts, ImuSingles, Special, Other}
-use Rattle.rows.specs.declared.rules.Judged.{Judged}
-use Rattle.rows.specs.declared.rules.Judged.TheVariants.{Time, Refused}
 use Rattle.rows.specs.Row.{time_of, rows_of, All}
 
 -- the kinds 1 to 4 and 6. 02, R-11: 5 was the USB packet; the number is not given to another kind
@@ -64,17 +62,17 @@ unfoldable pub plain_row : Row → Bool
 plain_row r = good_row r && cond (eqb r.kind 1) (eqb r.d 0) true
 
 -- one row of a list to be written, after a last time: 12 where it is bad or unwritable, then 5 where its time goes back
-abbrev pub judged_by : Bool → Bool → Row → ℕ → Judged
+abbrev pub judged_by : Bool → Bool → Row → ℕ → Result ℕ Fault
 judged_by good writable r last =
     cond (good && writable)
-    (cond (ltb (time_of r) last) (Refused BadTime) (Time (time_of r)))
-    (Refused BadRow)
+    (cond (ltb (time_of r) last) (Err BadTime) (Ok (time_of r)))
+    (Err BadRow)
 
 -- by the rules of a kind, and by those of its own
-unfoldable pub judged_as : Kind → Bool → Row → ℕ → Judged
+unfoldable pub judged_as : Kind → Bool → Row → ℕ → Result ℕ Fault
 judged_as kind writable r last = judged_by (good_as kind r) writable r last
 
-unfoldable pub judged_of : Bool → Row → ℕ → Judged
+unfoldable pub judged_of : Bool → Row → ℕ → Result ℕ Fault
 judged_of writable r last = judged_by (good_row r) writable r last
 
 -- the verdict of a list: none refused, or a refusal and the index of the first bad row
@@ -83,9 +81,9 @@ pub data Verdict : Type 0 where
   refused : Fault → ℕ → Verdict
 
 -- the first refusal decides; else the rest is judged after this row's time
-abbrev pub verdict_then : Judged → ℕ → (ℕ → Verdict) → Verdict
-verdict_then (Time t) i rest = rest t
-verdict_then (Refused f) i rest = refused f i
+abbrev pub verdict_then : Result ℕ Fault → ℕ → (ℕ → Verdict) → Verdict
+verdict_then (Ok t) i rest = rest t
+verdict_then (Err f) i rest = refused f i
 
 -- the rows from index i on, after a last time; `writable` is what a format can write
 unfoldable pub verdict_from : (Row → Bool) → List Row → ℕ → ℕ → Verdict

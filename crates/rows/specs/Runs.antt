@@ -1,10 +1,9 @@
 -- Runs: rows given one after the other while there is room, and how that ends. Over any state; no format is named here.
-use Rattle.std.specs.Prelude.{◌≡◌, ℕ, ◌+◌, ◌-◌, ◌*◌, ◌≤◌, cond, List, [], ◌++◌, length, leb}
+use Rattle.std.specs.Prelude.{◌≡◌, ℕ, ◌+◌, ◌-◌, ◌*◌, ◌≤◌, cond, List, [], ◌++◌, length, leb, Result, Ok, Err}
 use Rattle.std.proofs.lemmas.List.Edits.{sets}
 use Rattle.rows.specs.declared.fault.Fault.{Fault}
 use Rattle.rows.specs.declared.fault.Fault.TheVariants.{NoRoom}
-use Rattle.rows.specs.declared.fault.Reading.{Reading}
-use Rattle.rows.specs.declared.fault.Reading.TheVariants.{Finished, Refused}
+use Rattle.rows.specs.declared.fault.ReadError.{ReadError}
 use Rattle.rows.specs.declared.fault.ReadingNumbers.{ReadingNumbers}
 use Rattle.rows.specs.declared.row.Row.{Row}
 use Rattle.rows.specs.Fault.{reading_numbers}
@@ -62,12 +61,12 @@ EndsWithin (finished s) bytes = Unit {0}
 EndsWithin (refused f place) bytes = place ≤ bytes
 
 -- what a reader answers of an ending after n rows
-abbrev pub answer_of : {S : Type 0} → Ending S → ℕ → Reading
-answer_of (finished s) n = Finished n
-answer_of (refused f place) n = Refused f n place
+abbrev pub answer_of : {S : Type 0} → Ending S → ℕ → Result ℕ ReadError
+answer_of (finished s) n = Ok n
+answer_of (refused f place) n = Err (record { fault = f; rows = n; place = place })
 
 -- a reader's promise: the answer is that of the run, and the buffer holds its rows over what it held
-pub record ReadAs {S : Type 0} (run : Run S) (old new : List ℕ) (r : Reading) : Type 0 where
+pub record ReadAs {S : Type 0} (run : Run S) (old new : List ℕ) (r : Result ℕ ReadError) : Type 0 where
   pub answer : r ≡ answer_of run.ending (length run.rows)
   pub wrote : new ≡ over (flat run.rows) old
 

@@ -3,59 +3,54 @@ ghost use Rattle.std.specs.Prelude.{◌≡◌};
 ghost use Rattle.rows.specs.Fault.{number_of, reading_numbers, writing_numbers};
 
 // Why an input is refused: one case for each number of the table, in its order. 7 was the bit of a slave camera, and is never used again.
-#[derive(Clone, Copy)]
+#[derive(Clone, Copy, Debug, PartialEq, Eq)]
 pub enum Fault {
-    // 1: the input is longer than 1,073,741,824 bytes.
-    TooLong,
-    // 2: rows or bytes do not fit the lent buffer.
-    NoRoom,
-    // 3: a word of a reserved type.
-    Reserved,
-    // 4: the input ends inside a word, group, event, packet or header.
-    Cut,
-    // 5: the time goes back, is negative or passes the limit.
-    BadTime,
-    // 6: a coordinate outside the picture, or a polarity over 1.
-    Outside,
-    // 8: a word inside a group does not continue it.
-    Stray,
-    // 9: a bad text header, or a bad type or size after one.
-    BadHeader,
-    // 10: a bad packet.
-    BadPacket,
-    // 11: the camera's clock was reset.
-    ClockReset,
-    // 12: a bad row, or one that the format cannot write.
-    BadRow,
-    // 13: the length of a list of rows.
-    BadList,
-    // 14: the picture size that the caller asks for.
-    BadPicture,
+    // The input is longer than 1,073,741,824 bytes.
+    TooLong = 1,
+    // Rows or bytes do not fit the lent buffer.
+    NoRoom = 2,
+    // A word of a reserved type.
+    Reserved = 3,
+    // The input ends inside a word, group, event, packet or header.
+    Cut = 4,
+    // The time goes back, is negative or passes the limit.
+    BadTime = 5,
+    // A coordinate outside the picture, or a polarity over 1.
+    Outside = 6,
+    // A word inside a group does not continue it.
+    Stray = 8,
+    // A bad text header, or a bad type or size after one.
+    BadHeader = 9,
+    // A bad packet.
+    BadPacket = 10,
+    // The camera's clock was reset.
+    ClockReset = 11,
+    // A bad row, or one that the format cannot write.
+    BadRow = 12,
+    // The length of a list of rows.
+    BadList = 13,
+    // The picture size that the caller asks for.
+    BadPicture = 14,
 }
 
-// What a reader answers. The rows are those finished before the fault, the place a byte of the input.
-#[derive(Clone, Copy)]
-pub enum Reading {
-    Finished {
-        rows: usize,
-    },
-    Refused {
-        fault: Fault,
-        rows: usize,
-        place: usize,
-    },
+// Why a reader stopped: the refusal, the rows that were finished before it, and its place, a byte of the input.
+#[derive(Clone, Copy, Debug, PartialEq, Eq)]
+pub struct ReadError {
+    pub fault: Fault,
+    pub rows: usize,
+    pub place: usize,
 }
 
-// What a writer answers: the words written, or the index of the first bad row.
-#[derive(Clone, Copy)]
-pub enum Writing {
-    Written { count: usize },
-    Refused { fault: Fault, row: usize },
+// Why a writer wrote nothing: the refusal, and the index of the first bad row.
+#[derive(Clone, Copy, Debug, PartialEq, Eq)]
+pub struct WriteError {
+    pub fault: Fault,
+    pub row: usize,
 }
 
 // A reader's answer as three numbers: refusal 0 and place 0 where it finished.
 #[repr(C)]
-#[derive(Clone, Copy)]
+#[derive(Clone, Copy, Debug, PartialEq, Eq)]
 pub struct ReadingNumbers {
     pub refusal: u64,
     pub rows: u64,
@@ -64,48 +59,34 @@ pub struct ReadingNumbers {
 
 // A writer's answer as two numbers: refusal 0 and the words written, or the refusal and the row's index.
 #[repr(C)]
-#[derive(Clone, Copy)]
+#[derive(Clone, Copy, Debug, PartialEq, Eq)]
 pub struct WritingNumbers {
     pub refusal: u64,
     pub count: u64,
 }
 
-impl Fault {
-    // The number of a refusal.
-    pub fn number(self) -> u64
-        ensures { result ≡ number_of self }
-    {
-        match self {
-            Fault::TooLong => 1,
-            Fault::NoRoom => 2,
-            Fault::Reserved => 3,
-            Fault::Cut => 4,
-            Fault::BadTime => 5,
-            Fault::Outside => 6,
-            Fault::Stray => 8,
-            Fault::BadHeader => 9,
-            Fault::BadPacket => 10,
-            Fault::ClockReset => 11,
-            Fault::BadRow => 12,
-            Fault::BadList => 13,
-            Fault::BadPicture => 14,
-        }
+// The number of a refusal.
+impl From<Fault> for u64 {
+    ghost from_gives = { λ fault number. number ≡ number_of fault };
+
+    fn from(fault: Fault) -> u64 {
+        fault as u64
     }
 }
 
-impl Reading {
-    // The answer as numbers.
-    pub fn numbers(self) -> ReadingNumbers
-        ensures { result ≡ reading_numbers self }
-    {
-        match self {
-            Reading::Finished { rows } => ReadingNumbers {
+// What a reader answers as numbers: the count of its rows, or why it stopped.
+impl From<Result<usize, ReadError>> for ReadingNumbers {
+    ghost from_gives = { λ reading numbers. numbers ≡ reading_numbers reading };
+
+    fn from(reading: Result<usize, ReadError>) -> ReadingNumbers {
+        match reading {
+            Ok(rows) => ReadingNumbers {
                 refusal: 0,
                 rows: rows as u64,
                 place: 0,
             },
-            Reading::Refused { fault, rows, place } => ReadingNumbers {
-                refusal: fault.number(),
+            Err(ReadError { fault, rows, place }) => ReadingNumbers {
+                refusal: u64::from(fault),
                 rows: rows as u64,
                 place: place as u64,
             },
@@ -113,18 +94,18 @@ impl Reading {
     }
 }
 
-impl Writing {
-    // The answer as numbers.
-    pub fn numbers(self) -> WritingNumbers
-        ensures { result ≡ writing_numbers self }
-    {
-        match self {
-            Writing::Written { count } => WritingNumbers {
+// What a writer answers as numbers: the count of its words, or why it wrote none.
+impl From<Result<usize, WriteError>> for WritingNumbers {
+    ghost from_gives = { λ writing numbers. numbers ≡ writing_numbers writing };
+
+    fn from(writing: Result<usize, WriteError>) -> WritingNumbers {
+        match writing {
+            Ok(count) => WritingNumbers {
                 refusal: 0,
                 count: count as u64,
             },
-            Writing::Refused { fault, row } => WritingNumbers {
-                refusal: fault.number(),
+            Err(WriteError { fault, row }) => WritingNumbers {
+                refusal: u64::from(fault),
                 count: row as u64,
             },
         }

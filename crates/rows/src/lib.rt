@@ -7,7 +7,7 @@
 //     Row::pixel(time, x, y, polarity)    a row of a kind from its values; so for the other four kinds. camera_pixel names the camera too
 //     put(rows, i, row), get(rows, i)     row i of a lent slice; where there is no row i nothing is touched
 //     good(row), judge(kind, row, ..)     the row rules, and what a writer asks of one row after another
-//     Reading, Writing, Fault             what a reader and a writer answer, with the number of each refusal
+//     ReadError, WriteError, Fault        why a reader and a writer refuse, with the number of each refusal
 //
 // Each function's contract is an equation with a definition of specs/; specs/Promises.antt has the laws.
 #![tactic(auto)]
@@ -16,6 +16,6 @@ mod fault;
 mod row;
 mod rules;
 
-pub use fault::{Fault, Reading, ReadingNumbers, Writing, WritingNumbers};
-pub use row::{Row, RowAt, get, put, room};
-pub use rules::{Judged, Kind, good, good_length, judge};
+pub use fault::{Fault, ReadError, ReadingNumbers, WriteError, WritingNumbers};
+pub use row::{Row, get, put, room};
+pub use rules::{Kind, good, good_length, judge};

@@ -1,10 +1,9 @@
 // Rows, and rows in slices that the caller lends.
-ghost use Rattle.std.specs.Prelude.{◌≡◌, ◌+◌, ◌≤◌, length};
-ghost use Rattle.std.proofs.lemmas.List.Edits.{sets};
+ghost use Rattle.std.specs.Prelude.{◌≡◌};
 ghost use Rattle.rows.specs.Row.{time_of, room_of, row_at, PutRow, timed, camera_row, pixel_row, trigger_row, counts_row, singles_row, special_row};
 
 // A row: its kind, its time mod 2^32 and div 2^32, and seven numbers of the kind's own, unused ones 0.
-#[derive(Clone, Copy)]
+#[derive(Clone, Copy, Debug, PartialEq, Eq)]
 pub struct Row {
     pub kind: u32,
     pub low: u32,
@@ -18,14 +17,8 @@ pub struct Row {
     pub g: u32,
 }
 
-// What stands at an index of a list of rows.
-#[derive(Clone, Copy)]
-pub enum RowAt {
-    Found(Row),
-    Nothing,
-}
-
 // A row of a kind at a time, with its seven numbers.
+#[tactic(auto, unfolding(crate::specs::Row::timed))]
 fn timed(kind: u32, time: u64, a: u32, b: u32, c: u32, d: u32, e: u32, f: u32, g: u32) -> Row
     ensures { result ≡ timed kind time a b c d e f g }
 {
@@ -96,6 +89,7 @@ impl Row {
     }
 
     // The time in microseconds.
+    #[tactic(auto, unfolding(crate::specs::Row::time_of))]
     pub fn time(self) -> u64
         ensures { result ≡ time_of self }
     {
@@ -110,13 +104,14 @@ pub fn room(rows: &[u32]) -> usize
     rows.len() / 10
 }
 
-// Row i of a list.
-pub fn get(rows: &[u32], i: usize) -> RowAt
+// Row i of a list, where the list has one.
+#[tactic(auto, unfolding(crate::specs::Row::row_from))]
+pub fn get(rows: &[u32], i: usize) -> Option<Row>
     ensures { result ≡ row_at rows.now i }
 {
     if i < room(rows) {
         let at = i * 10;
-        return RowAt::Found(Row {
+        return Some(Row {
             kind: rows[at],
             low: rows[at + 1],
             high: rows[at + 2],
@@ -129,19 +124,7 @@ pub fn get(rows: &[u32], i: usize) -> RowAt
             g: rows[at + 9],
         });
     }
-    RowAt::Nothing
-}
-
-// Copies `numbers` to the place `at` of `rows`.
-fn copy_to(rows: &mut [u32], at: usize, numbers: &[u32])
-    requires { at + length numbers.now ≤ length rows.old }
-    ensures { rows.new ≡ sets rows.old at numbers.now }
-{
-    let mut k = 0;
-    while k < numbers.len() {
-        rows[at + k] = numbers[k];
-        k += 1;
-    }
+    None
 }
 
 // Writes row i of a list and answers true; where there is no room for it, touches nothing and answers false.
@@ -152,7 +135,8 @@ pub fn put(rows: &mut [u32], i: usize, row: Row) -> bool
         let numbers = [
             row.kind, row.low, row.high, row.a, row.b, row.c, row.d, row.e, row.f, row.g,
         ];
-        copy_to(rows, i * 10, &numbers);
+        let at = i * 10;
+        rows[at..at + 10].copy_from_slice(&numbers);
         return true;
     }
     false

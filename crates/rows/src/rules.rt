@@ -1,12 +1,12 @@
 // The row rules: which rows are good, and what a writer asks of one row after another.
-ghost use Rattle.std.specs.Prelude.{◌≡◌, [], ◌∷◌, length};
+ghost use Rattle.std.specs.Prelude.{◌≡◌, length};
 ghost use Rattle.rows.specs.Rules.{kind_of, unused, below, timely, good_pair, good_as, good_row, judged_as, good_length};
 
 use crate::fault::Fault;
 use crate::row::Row;
 
 // The kinds of rows, 1 to 4 and 6, and every other number. 5 was the USB packet, and is never used again.
-#[derive(Clone, Copy)]
+#[derive(Clone, Copy, Debug, PartialEq, Eq)]
 pub enum Kind {
     Pixel,
     Trigger,
@@ -16,18 +16,12 @@ pub enum Kind {
     Other,
 }
 
-// What one row of a list to be written gets: its time, which the next row's must reach, or a refusal.
-#[derive(Clone, Copy)]
-pub enum Judged {
-    Time(u64),
-    Refused(Fault),
-}
+// The kind that a row's first number names.
+impl From<u32> for Kind {
+    ghost from_gives = { λ number kind. kind ≡ kind_of number };
 
-impl Kind {
-    // The kind that a row's first number names.
-    pub fn of(number: u32) -> Kind
-        ensures { result ≡ kind_of number }
-    {
+    #[tactic(auto, unfolding(crate::specs::Rules::kind_of))]
+    fn from(number: u32) -> Kind {
         match number {
             1 => Kind::Pixel,
             2 => Kind::Trigger,
@@ -39,19 +33,27 @@ impl Kind {
     }
 }
 
-// Whether five data numbers are all 0, as unused ones are. A caller with fewer passes 0. Here and below all tests are made and joined
-// by `&`, with no branch for each: good rows meet every one of them.
-fn are_unused(c: u32, d: u32, e: u32, f: u32, g: u32) -> bool
-    ensures { result ≡ unused (c ∷ d ∷ e ∷ f ∷ g ∷ []) }
+// Whether data numbers are all 0, as unused ones are. Here and below all tests are made and joined by `&`, with no branch for each: good
+// rows meet every one of them.
+fn are_unused<const N: usize>(numbers: [u32; N]) -> bool
+    ensures { result ≡ unused numbers.entry }
 {
-    (c == 0) & ((d == 0) & ((e == 0) & ((f == 0) & (g == 0))))
+    let mut all = true;
+    for n in &numbers {
+        all &= *n == 0;
+    }
+    all
 }
 
-// Whether six data numbers are all below a limit.
-fn are_below(limit: u32, a: u32, b: u32, c: u32, d: u32, e: u32, f: u32) -> bool
-    ensures { result ≡ below limit (a ∷ b ∷ c ∷ d ∷ e ∷ f ∷ []) }
+// Whether data numbers are all below a limit.
+fn are_below<const N: usize>(limit: u32, numbers: [u32; N]) -> bool
+    ensures { result ≡ below limit numbers.entry }
 {
-    (a < limit) & ((b < limit) & ((c < limit) & ((d < limit) & ((e < limit) & (f < limit)))))
+    let mut all = true;
+    for n in &numbers {
+        all &= *n < limit;
+    }
+    all
 }
 
 // Whether a row's time is within the limit of 2^34 microseconds.
@@ -61,13 +63,14 @@ fn is_timely(row: Row) -> bool
     row.time() < 17179869184
 }
 
+#[tactic(auto, unfolding(crate::specs::Rules::good_as))]
 fn is_pixel(row: Row) -> bool
     ensures { result ≡ good_as Kind.Pixel row }
 {
     let timely = is_timely(row);
-    let within = are_below(32768, row.a, row.b, 0, 0, 0, 0);
-    let bits = are_below(2, row.c, row.d, 0, 0, 0, 0);
-    let unused = are_unused(0, 0, row.e, row.f, row.g);
+    let within = are_below(32768, [row.a, row.b]);
+    let bits = are_below(2, [row.c, row.d]);
+    let unused = are_unused([row.e, row.f, row.g]);
     timely & within & bits & unused
 }
 
@@ -76,19 +79,21 @@ fn is_pair(row: Row, first: u32, second: u32) -> bool
     ensures { result ≡ good_pair first second row }
 {
     let timely = is_timely(row);
-    let unused = are_unused(row.c, row.d, row.e, row.f, row.g);
+    let unused = are_unused([row.c, row.d, row.e, row.f, row.g]);
     timely & (row.a < first) & (row.b < second) & unused
 }
 
+#[tactic(auto, unfolding(crate::specs::Rules::good_as))]
 fn is_imu_counts(row: Row) -> bool
     ensures { result ≡ good_as Kind.ImuCounts row }
 {
     let timely = is_timely(row);
-    let below = are_below(65536, row.a, row.b, row.c, row.d, row.e, row.f);
+    let below = are_below(65536, [row.a, row.b, row.c, row.d, row.e, row.f]);
     timely & below & (row.g == 0)
 }
 
 // Whether a row keeps the rules of a kind.
+#[tactic(auto, unfolding(crate::specs::Rules::good_as))]
 fn good_as(kind: Kind, row: Row) -> bool
     ensures { result ≡ good_as kind row }
 {
@@ -103,36 +108,35 @@ fn good_as(kind: Kind, row: Row) -> bool
 }
 
 // Whether a row is a good row; any other is refused 12.
+#[tactic(auto, unfolding(crate::specs::Rules::good_row))]
 pub fn good(row: Row) -> bool
     ensures { result ≡ good_row row }
 {
-    good_as(Kind::of(row.kind), row)
+    good_as(Kind::from(row.kind), row)
 }
 
 // Whether a list of rows to be written has a length that is not refused 13.
+#[tactic(auto, unfolding(crate::specs::Rules::good_length))]
 pub fn good_length(rows: &[u32]) -> bool
     ensures { result ≡ good_length (length rows.now) }
 {
-    if rows.len() % 10 != 0 {
-        return false;
-    }
-    rows.len() / 10 <= 16777216
+    rows.len() % 10 == 0 && rows.len() / 10 <= 16777216
 }
 
-// One row of a list to be written, by the rules of the kind that the caller names, after a row of the time `last`: 12 where it
-// breaks them or the format cannot write it, then 5 where its time is below `last`. A format that has matched on the row's kind
-// names it, and the answer is then `judged_of`.
+// One row of a list to be written, by the rules of the kind that the caller names, after a row of the time `last`: its own time, which the
+// next row's must reach; or 12 where it breaks the rules or the format cannot write it, then 5 where its time is below `last`. A format that
+// has matched on the row's kind names it, and the answer is then `judged_of`.
 #[tactic(auto, unfolding(crate::specs::Rules::judged_as))]
-pub fn judge(kind: Kind, row: Row, writable: bool, last: u64) -> Judged
+pub fn judge(kind: Kind, row: Row, writable: bool, last: u64) -> Result<u64, Fault>
     ensures { result ≡ judged_as kind writable row last }
 {
     let good = good_as(kind, row);
     if good & writable {
         let time = row.time();
         if time < last {
-            return Judged::Refused(Fault::BadTime);
+            return Err(Fault::BadTime);
         }
-        return Judged::Time(time);
+        return Ok(time);
     }
-    Judged::Refused(Fault::BadRow)
+    Err(Fault::BadRow)
 }

@@ -9,23 +9,21 @@ use mathlib.Core.Bool.{true, false}
 use mathlib.Core.List.{List}
 use lib.ListN.{length, take, drop}
 use lib.Seq.{sets}
+use Rattle.std.specs.Prelude.{Option, Some, None, Result, Ok, Err}
 use Rattle.rows.specs.declared.fault.Fault.{Fault}
 use Rattle.rows.specs.declared.fault.Fault.TheVariants.{NoRoom, Cut}
-use Rattle.rows.specs.declared.fault.Reading.TheVariants.{Finished, Refused}
 use Rattle.rows.specs.declared.row.Row.{Row}
 use Rattle.rows.specs.Row.{flat, room_of}
 use Rattle.rows.specs.Runs.{finished, refused, Run, give, ReadAs, Did}
 use Rattle.rows.proofs.Sequence.{give_then}
 use Rattle.rows.proofs.Sofar.{Sofar, sofar_none, sofar_start, sofar_ends, sofar_give, sofar_full, sofar_length, sofar_room, did_reads}
-use Rattle.words.specs.declared.Next.{Next}
-use Rattle.words.specs.declared.Next.TheVariants.{Word, Part, End}
 use Rattle.words.specs.Words.{Words, word, first_of, words_of, next_at}
-use Rattle.words.specs.declared.Gave.{Gave}
+use Rattle.words.specs.declared.Stop.{Stop}
+use Rattle.words.specs.declared.Stop.TheVariants as stop
 use Rattle.words.specs.Machine.{next, fault, Given, refuses, onto, Machine, Reached, run, closed, reading, read_from}
 use Rattle.words.specs.Written.{GaveAs}
 use Rattle.words.proofs.Cut.{end_found, part_found, word_found, word_within, part_next}
 use Rattle.words.proofs.Wrote.{WroteAll, gave_all, gave_fault, WroteNone, gave_nothing}
-use Rattle.words.specs.declared.Gave.TheVariants as gave
 
 -- `whole` is the run of all that the loop reads: n₀ rows were in `old` before it. The loop is at `at` in s, and n rows are in `buf`
 pub record Between {S : Type 0} (m : Machine S) (bytes : List ℕ) (whole : Run (Reached S)) (old : List ℕ) (n₀ : ℕ) (s : S) (at n : ℕ) (buf : List ℕ) : Type 0 where
@@ -49,11 +47,11 @@ module _ {S : Type 0} {m : Machine S} {bytes : List ℕ} {whole : Run (Reached S
   between_room = omega (arith, h.sofar.fits, sofar_room h.sofar)
 
   -- what a function found at the front of the bytes that are left
-  pub found : {r v : Next} → r ≡ first_of (words_of m.size (take (length bytes - at) (drop at bytes))) → r ≡ v → v ≡ next_at m.size bytes at
+  pub found : {r v : Option (Result ℕ Fault)} → r ≡ first_of (words_of m.size (take (length bytes - at) (drop at bytes))) → r ≡ v → v ≡ next_at m.size bytes at
   found e f = sym f ∙ part_next m.size bytes at e
 
   -- the bytes end here, with no group in hand, or with one
-  module _ (e : End ≡ next_at m.size bytes at) where
+  module _ (e : None ≡ next_at m.size bytes at) where
     pub did_whole : m.pending s ≡ false → Did whole old n₀ (finished (record { state = s; place = at })) n buf
     did_whole p = sofar_ends h.sofar (rw (end_found (words_of m.size (drop at bytes)) e, p))
 
@@ -61,11 +59,11 @@ module _ {S : Type 0} {m : Machine S} {bytes : List ℕ} {whole : Run (Reached S
     did_pending p = sofar_ends h.sofar (rw (end_found (words_of m.size (drop at bytes)) e, p))
 
   -- they end within a word
-  did_part : Part ≡ next_at m.size bytes at → Did whole old n₀ (refused Cut (m.origin s at)) n buf
-  did_part e = sofar_ends h.sofar (rw (part_found (words_of m.size (drop at bytes)) e))
+  did_part : Some (Err Cut) ≡ next_at m.size bytes at → Did whole old n₀ (refused Cut (m.origin s at)) n buf
+  did_part e = sofar_ends h.sofar (rw ((part_found (words_of m.size (drop at bytes)) e).0))
 
   -- a word w is next
-  module _ (some : 0 < m.size) {w : ℕ} (e : Word w ≡ next_at m.size bytes at) where
+  module _ (some : 0 < m.size) {w : ℕ} (e : Some (Ok w) ≡ next_at m.size bytes at) where
     pub word_in : at + m.size ≤ length bytes
     word_in = word_within m.size some bytes at e
 
@@ -99,19 +97,19 @@ module _ {S : Type 0} {m : Machine S} {bytes : List ℕ} {whole : Run (Reached S
       given_step : {a : Given} → g ≡ a → m.step s at w ≡ onto a s'
       given_step e = o ∙ ap (λ (b : Given). onto b s') e
 
-      pub goes_on_gave : {buf' : List ℕ} {r : Gave} {k : ℕ} → GaveAs g n buf buf' r → r ≡ gave.Rows k → Between m bytes whole old n₀ s' (at + m.size) k buf'
+      pub goes_on_gave : {buf' : List ℕ} {r : Result ℕ Stop} {k : ℕ} → GaveAs g n buf buf' r → r ≡ Ok k → Between m bytes whole old n₀ s' (at + m.size) k buf'
       goes_on_gave {buf'} {r} {k} did is =
           let all : WroteAll g n buf buf' k = gave_all g (subst (GaveAs g n buf buf') is did) in
           let f : n + length all.new ≤ room_of old = omega (arith, all.fits, sofar_room h.sofar) in
           subst (λ (j : ℕ). Between m bytes whole old n₀ s' (at + m.size) j buf') all.count (goes_on (given_step all.given) f all.wrote)
 
-      pub did_gave_full : {buf' : List ℕ} {r : Gave} → GaveAs g n buf buf' r → r ≡ gave.Full → Did whole old n₀ (refused NoRoom (m.origin s at)) n buf'
+      pub did_gave_full : {buf' : List ℕ} {r : Result ℕ Stop} → GaveAs g n buf buf' r → r ≡ Err stop.Full → Did whole old n₀ (refused NoRoom (m.origin s at)) n buf'
       did_gave_full {buf'} did is =
           let none : WroteNone g n buf buf' = gave_nothing g (subst (GaveAs g n buf buf') is did) in
           let k : room_of old < n + length none.new = omega (arith, none.full, sofar_room h.sofar) in
           subst (Did whole old n₀ (refused NoRoom (m.origin s at)) n) (sym none.wrote) (did_full (given_step none.given) k)
 
-      pub did_gave : {buf' : List ℕ} {r : Gave} {f : Fault} → GaveAs g n buf buf' r → r ≡ gave.Refused f → Did whole old n₀ (refused f at) n buf'
+      pub did_gave : {buf' : List ℕ} {r : Result ℕ Stop} {f : Fault} → GaveAs g n buf buf' r → r ≡ Err (stop.Refused f) → Did whole old n₀ (refused f at) n buf'
       did_gave {buf'} {r} {f} did is =
           let own : (g ≡ refuses f) × (buf' ≡ buf) = gave_fault g (subst (GaveAs g n buf buf') is did) in
           subst (Did whole old n₀ (refused f at) n) (sym own.1) (did_fault (given_step own.0))
@@ -119,18 +117,18 @@ module _ {S : Type 0} {m : Machine S} {bytes : List ℕ} {whole : Run (Reached S
 -- the same where the run began with no rows
 module _ {S : Type 0} {m : Machine S} {bytes : List ℕ} {whole : Run (Reached S)} {old : List ℕ} {s : S} {at n : ℕ} {buf : List ℕ}
     (h : Between m bytes whole old 0 s at n buf) where
-  pub ends_whole : End ≡ next_at m.size bytes at → m.pending s ≡ false → ReadAs whole old buf (Finished n)
+  pub ends_whole : None ≡ next_at m.size bytes at → m.pending s ≡ false → ReadAs whole old buf (Ok n)
   ends_whole e p = did_reads (did_whole h e p) refl
 
-  pub ends_pending : End ≡ next_at m.size bytes at → m.pending s ≡ true → ReadAs whole old buf (Refused Cut n (m.origin s at))
+  pub ends_pending : None ≡ next_at m.size bytes at → m.pending s ≡ true → ReadAs whole old buf (Err (record { fault = Cut; rows = n; place = m.origin s at }))
   ends_pending e p = did_reads (did_pending h e p) refl
 
-  pub ends_part : Part ≡ next_at m.size bytes at → ReadAs whole old buf (Refused Cut n (m.origin s at))
+  pub ends_part : Some (Err Cut) ≡ next_at m.size bytes at → ReadAs whole old buf (Err (record { fault = Cut; rows = n; place = m.origin s at }))
   ends_part e = did_reads (did_part h e) refl
 
-  module _ (some : 0 < m.size) {w : ℕ} (e : Word w ≡ next_at m.size bytes at) {g : Given} (s' : S) (o : m.step s at w ≡ onto g s') where
-    pub ends_gave_full : {buf' : List ℕ} {r : Gave} → GaveAs g n buf buf' r → r ≡ gave.Full → ReadAs whole old buf' (Refused NoRoom n (m.origin s at))
+  module _ (some : 0 < m.size) {w : ℕ} (e : Some (Ok w) ≡ next_at m.size bytes at) {g : Given} (s' : S) (o : m.step s at w ≡ onto g s') where
+    pub ends_gave_full : {buf' : List ℕ} {r : Result ℕ Stop} → GaveAs g n buf buf' r → r ≡ Err stop.Full → ReadAs whole old buf' (Err (record { fault = NoRoom; rows = n; place = m.origin s at }))
     ends_gave_full did is = did_reads (did_gave_full h some e s' o did is) refl
 
-    pub ends_gave : {buf' : List ℕ} {r : Gave} {f : Fault} → GaveAs g n buf buf' r → r ≡ gave.Refused f → ReadAs whole old buf' (Refused f n at)
+    pub ends_gave : {buf' : List ℕ} {r : Result ℕ Stop} {f : Fault} → GaveAs g n buf buf' r → r ≡ Err (stop.Refused f) → ReadAs whole old buf' (Err (record { fault = f; rows = n; place = at }))
     ends_gave did is = did_reads (did_gave h some e s' o did is) refl

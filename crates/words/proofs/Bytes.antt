@@ -1,11 +1,12 @@
 -- The bytes of a word: stored, and read again.
 use mathlib.Core.Path.{◌≡◌, refl, ◌∙◌, ap, ap₂}
-use Prim.Native.Nat.{ℕ, zero, suc, ◌+◌, ◌*◌, ◌/◌, ◌%◌, ◌^◌, ◌≤◌, ◌<◌}
+use Prim.Native.Nat.{ℕ, zero, suc, ◌+◌, ◌-◌, ◌*◌, ◌/◌, ◌%◌, ◌^◌, ◌≤◌, ◌<◌}
 use native.Mathlib.Omega.{arith}
-use native.Mathlib.Nat.{pow-suc}
+use native.Mathlib.Nat.{pow-suc, suc-add}
 use mathlib.Core.List.{List, [], ◌∷◌, ◌++◌, append_assoc}
-use lib.ListN.{length, set, length-append}
-use lib.Seq.{sets, take_at, drop_at}
+use lib.ListN.{length, take, length-append}
+use lib.Seq.{take_at, drop_at}
+use Rattle.std.specs.Int.{w64, to_le_bytes}
 use Rattle.words.specs.Words.{value, word, words_of, bytes_of, bytes_of_all}
 use Rattle.words.specs.Promises.{Small, before}
 use Rattle.words.proofs.Cut.{words_one}
@@ -15,21 +16,28 @@ unfolding bytes_of
 bytes_length zero w = refl
 bytes_length (suc k) w = ap suc (bytes_length k (w / 256))
 
--- a word of two bytes or four, stored byte by byte
-pub stored_two : (l : List ℕ) (at w : ℕ) → set (set l at (w % 256)) (at + 1) (w / 256 % 256) ≡ sets l at (bytes_of 2 w)
+-- the lowest bytes of eight, as std has them
+eight : (w : ℕ) → to_le_bytes w64 w ≡ bytes_of 8 w
 unfolding bytes_of
-stored_two l at w = let e₁ : at + 1 ≡ suc at = omega arith in rw e₁
+eight w =
+    let b₂ : w / 65536 ≡ w / 256 / 256 = omega arith in
+    let b₃ : w / 16777216 ≡ w / 256 / 256 / 256 = omega arith in
+    let b₄ : w / 4294967296 ≡ w / 256 / 256 / 256 / 256 = omega arith in
+    let b₅ : w / 1099511627776 ≡ w / 256 / 256 / 256 / 256 / 256 = omega arith in
+    let b₆ : w / 281474976710656 ≡ w / 256 / 256 / 256 / 256 / 256 / 256 = omega arith in
+    let b₇ : w / 72057594037927936 ≡ w / 256 / 256 / 256 / 256 / 256 / 256 / 256 = omega arith in
+    rw (b₂, b₃, b₄, b₅, b₆, b₇)
 
-pub stored_four : (l : List ℕ) (at w : ℕ)
-    → set (set (set (set l at (w % 256)) (at + 1) (w / 256 % 256)) (at + 2) (w / 65536 % 256)) (at + 3) (w / 16777216 % 256) ≡ sets l at (bytes_of 4 w)
+fewer : (k more w : ℕ) → take k (bytes_of (k + more) w) ≡ bytes_of k w
 unfolding bytes_of
-stored_four l at w =
-    let e₁ : at + 1 ≡ suc at = omega arith in
-    let e₂ : at + 2 ≡ suc (suc at) = omega arith in
-    let e₃ : at + 3 ≡ suc (suc (suc at)) = omega arith in
-    let b₂ : w / 65536 % 256 ≡ w / 256 / 256 % 256 = omega arith in
-    let b₃ : w / 16777216 % 256 ≡ w / 256 / 256 / 256 % 256 = omega arith in
-    rw (e₁, e₂, e₃, b₂, b₃)
+fewer zero more w = refl
+fewer (suc k) more w =
+    ap (λ (n : ℕ). take (suc k) (bytes_of n w)) (suc-add k more) ∙ ap (λ (l : List ℕ). w % 256 ∷ l) (fewer k more (w / 256))
+
+pub lowest : (k w : ℕ) → k ≤ 8 → take k (to_le_bytes w64 w) ≡ bytes_of k w
+lowest k w h =
+    let whole : 8 ≡ k + (8 - k) = omega arith in
+    ap (take k) (eight w ∙ ap (λ (n : ℕ). bytes_of n w) whole) ∙ fewer k (8 - k) w
 
 -- a word's bytes make the word
 value_bytes : (k w : ℕ) → w < 256 ^ k → value (bytes_of k w) ≡ w

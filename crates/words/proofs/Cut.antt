@@ -9,33 +9,31 @@ use lib.ListN.{length, take, drop, length-drop, length-append}
 use lib.Seq.{drop-drop, take-append-le, drop-append-le}
 use lib.Dec.{eqb, ltb}
 use borrow.Author.Tests.{eq-eqb, ne_eqb, lt-ltb, le-ltb, eqb-true, eqb-false, ltb-true, ltb-false}
-use Rattle.rows.proofs.Lists.{reads, reads_take, part_rest}
-use Rattle.words.specs.declared.Next.{Next}
-use Rattle.words.specs.declared.Next.TheVariants.{Word, Part, End}
+use Rattle.std.specs.Prelude.{Option, Some, None, Result, Ok, Err}
+use Rattle.rows.specs.declared.fault.Fault.{Fault}
+use Rattle.rows.specs.declared.fault.Fault.TheVariants.{Cut}
+use Rattle.rows.proofs.Lists.{part_rest}
 use Rattle.words.specs.Words.{value, Words, word, whole, part, first_of, cut_by, words_of, next_at}
 
-no_word_end : {E : Type 0} {w : ℕ} → Word w ≡ End → E
+no_word_end : {E : Type 0} {r : Result ℕ Fault} → Some r ≡ None → E
 no_word_end e = let z : ◌≡◌ {A = ℕ} 0 1 = cc in absurd (omega arith)
 
-no_word_part : {E : Type 0} {w : ℕ} → Word w ≡ Part → E
+no_word_part : {E : Type 0} {w : ℕ} {f : Fault} → ◌≡◌ {A = Option (Result ℕ Fault)} (Some (Ok w)) (Some (Err f)) → E
 no_word_part e = let z : ◌≡◌ {A = ℕ} 0 1 = cc in absurd (omega arith)
 
-no_part_end : {E : Type 0} → Part ≡ End → E
-no_part_end e = let z : ◌≡◌ {A = ℕ} 0 1 = cc in absurd (omega arith)
-
-same_word : {v w : ℕ} → Word v ≡ Word w → w ≡ v
+same_word : {v w : ℕ} → ◌≡◌ {A = Option (Result ℕ Fault)} (Some (Ok v)) (Some (Ok w)) → w ≡ v
 same_word e = cc
 
 -- a stream that begins so
-pub end_found : (r : Words) → End ≡ first_of r → r ≡ whole
+pub end_found : (r : Words) → None ≡ first_of r → r ≡ whole
 end_found (word w r) e = no_word_end (sym e)
 end_found whole e = refl
-end_found part e = no_part_end (sym e)
+end_found part e = no_word_end (sym e)
 
-pub part_found : (r : Words) → Part ≡ first_of r → r ≡ part
+pub part_found : (r : Words) {f : Fault} → Some (Err f) ≡ first_of r → (r ≡ part) × (f ≡ Cut)
 part_found (word w r) e = no_word_part (sym e)
-part_found whole e = no_part_end e
-part_found part e = refl
+part_found whole e = no_word_end e
+part_found part e = (refl, cc)
 
 -- one stream after another that ends whole
 abbrev pub join : Words → Words → Words
@@ -74,17 +72,17 @@ module _ (size : ℕ) (some : 0 < size) where
       simp (ne_eqb _ _ n, le-ltb _ _ h) (ap (word (value (take size (a ∷ r)))) s)
 
   -- what stands at the front of bytes
-  pub first_end : (l : List ℕ) → length l ≡ 0 → End ≡ first_of (words_of size l)
+  pub first_end : (l : List ℕ) → length l ≡ 0 → None ≡ first_of (words_of size l)
   first_end l h = sym (ap first_of (words_none l h))
 
-  pub first_part : (l : List ℕ) → 0 < length l → length l < size → Part ≡ first_of (words_of size l)
+  pub first_part : (l : List ℕ) → 0 < length l → length l < size → Some (Err Cut) ≡ first_of (words_of size l)
   first_part l h g = sym (ap first_of (words_few l h g))
 
-  pub first_word : (l : List ℕ) {w : ℕ} → size ≤ length l → w ≡ value (reads l size 0) → Word w ≡ first_of (words_of size l)
-  first_word l h e = ap Word (e ∙ ap value (reads_take l size 0 (omega arith))) ∙ sym (ap first_of (words_one l h))
+  pub first_word : (l : List ℕ) {w : ℕ} → size ≤ length l → w ≡ value (take size l) → Some (Ok w) ≡ first_of (words_of size l)
+  first_word l h e = ap (λ (n : ℕ). Some (Ok n)) e ∙ sym (ap first_of (words_one l h))
 
   -- a word at the front, and the words of what follows it
-  word_split : (l : List ℕ) (w : ℕ) → Word w ≡ first_of (words_of size l) → (words_of size l ≡ word w (words_of size (drop size l))) × (size ≤ length l)
+  word_split : (l : List ℕ) (w : ℕ) → Some (Ok w) ≡ first_of (words_of size l) → (words_of size l ≡ word w (words_of size (drop size l))) × (size ≤ length l)
   word_split l w e = go (eqb (length l) 0) refl (ltb (length l) size) refl
     where
       go : (a : Bool) → eqb (length l) 0 ≡ a → (b : Bool) → ltb (length l) size ≡ b → (words_of size l ≡ word w (words_of size (drop size l))) × (size ≤ length l)
@@ -96,7 +94,7 @@ module _ (size : ℕ) (some : 0 < size) where
           (words_one l h ∙ ap (λ (k : ℕ). word k (words_of size (drop size l))) v, h)
 
   -- the same at a place
-  module _ (l : List ℕ) (at : ℕ) {w : ℕ} (e : Word w ≡ next_at size l at) where
+  module _ (l : List ℕ) (at : ℕ) {w : ℕ} (e : Some (Ok w) ≡ next_at size l at) where
     pub word_found : words_of size (drop at l) ≡ word w (words_of size (drop (at + size) l))
     word_found = (word_split (drop at l) w e).0 ∙ rw (drop-drop size at l)
 
@@ -117,9 +115,9 @@ module _ (size : ℕ) (some : 0 < size) where
       ∙ sym (ap (λ (r : Words). join r (words_of size ys)) (words_one xs f))
 
 -- nothing stands at the end and past it
-pub at_end_lem : (size : ℕ) → 0 < size → (l : List ℕ) (at : ℕ) → length l ≤ at → End ≡ next_at size l at
+pub at_end_lem : (size : ℕ) → 0 < size → (l : List ℕ) (at : ℕ) → length l ≤ at → None ≡ next_at size l at
 at_end_lem size some l at h = first_end size some (drop at l) (omega (arith, length-drop at l))
 
 -- what stands at the front of a part that begins at a place stands at the place
-pub part_next : (size : ℕ) (l : List ℕ) (at : ℕ) {r : Next} → r ≡ first_of (words_of size (take (length l - at) (drop at l))) → r ≡ next_at size l at
+pub part_next : (size : ℕ) (l : List ℕ) (at : ℕ) {r : Option (Result ℕ Fault)} → r ≡ first_of (words_of size (take (length l - at) (drop at l))) → r ≡ next_at size l at
 part_next size l at e = e ∙ ap (λ (k : List ℕ). first_of (words_of size k)) (part_rest at l)

@@ -3,7 +3,7 @@ use mathlib.Core.Path.{◌≡◌, sym, ◌∙◌, ap, ap₂, subst}
 use Prim.Native.Nat.{ℕ, ◌*◌}
 use mathlib.Core.List.{List}
 use lib.ListN.{length, take}
-use Rattle.rows.specs.declared.fault.Reading.TheVariants.{Finished}
+use Rattle.std.specs.Prelude.{Ok}
 use Rattle.rows.specs.declared.row.Row.{Row}
 use Rattle.rows.specs.Row.{flat, over, room_of, rows_of}
 use Rattle.rows.specs.Rules.{accepted, verdict_of}
@@ -30,7 +30,7 @@ pub comes_back : {S : Type 0} (s : Spelling) (reading_of : List ℕ → ℕ → 
 comes_back {S} s reading_of law l narrow ok out out' w long wrote old new r room read =
     record {
       written = wrote.answer ∙ rw verdict;
-      finished = read.answer ∙ ap₂ (λ (a : Ending S) (rs : List Row). answer_of a (length rs)) back.ending back.rows ∙ ap Finished (rows_of_length l);
+      finished = read.answer ∙ ap₂ (λ (a : Ending S) (rs : List Row). answer_of a (length rs)) back.ending back.rows ∙ ap Ok (rows_of_length l);
       back = read.wrote ∙ ap (λ (rs : List Row). over (flat rs) old) back.rows ∙ ap (λ (k : List ℕ). over k old) (same_numbers s l ok);
     }
   where

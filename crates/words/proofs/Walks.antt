@@ -5,9 +5,9 @@ use native.Mathlib.Omega.{arith}
 use mathlib.Core.Bool.{Bool}
 use mathlib.Core.List.{List, [], ◌∷◌, ◌++◌}
 use lib.ListN.{length, length-append}
+use Rattle.std.specs.Prelude.{Ok, Err}
 use Rattle.rows.specs.declared.fault.Fault.{Fault}
 use Rattle.rows.specs.declared.row.Row.{Row}
-use Rattle.rows.specs.declared.rules.Judged.TheVariants.{Time, Refused}
 use Rattle.rows.specs.Row.{room_of, row_from, rows_of}
 use Rattle.rows.specs.Rules.{accepted, refused, judged_of, verdict_from}
 use Rattle.rows.proofs.Judging.{Judging, judging_start, judging_done, judging_next, judging_refused}
@@ -49,13 +49,13 @@ module _ {W : Type 0} (k : Walk W) where
     counting_done f = (judging_done writable h.judging f, omega (arith, h.total, ap (λ (ws : List ℕ). length ws) (none_left l w i f)))
 
     module _ {r : Row} (f : i < room_of l) (e : r ≡ row_from l (i * 10)) where
-      pub counting_refused : {fault : Fault} → Refused fault ≡ judged_of (writable r) r last → verdict_from writable (rows_of l) 0 0 ≡ refused fault i
-      counting_refused {fault} g = judging_refused writable h.judging f (subst (λ (q : Row). Refused fault ≡ judged_of (writable q) q last) e g)
+      pub counting_refused : {fault : Fault} → Err fault ≡ judged_of (writable r) r last → verdict_from writable (rows_of l) 0 0 ≡ refused fault i
+      counting_refused {fault} g = judging_refused writable h.judging f (subst (λ (q : Row). Err fault ≡ judged_of (writable q) q last) e g)
 
-      pub counting_next : {t n : ℕ} → Time t ≡ judged_of (writable r) r last → n ≡ length (k.words w r) → Counting writable start l (words + n) (k.next w r) t (i + 1)
+      pub counting_next : {t n : ℕ} → Ok t ≡ judged_of (writable r) r last → n ≡ length (k.words w r) → Counting writable start l (words + n) (k.next w r) t (i + 1)
       counting_next {t} {n} g p =
           record {
-            judging = judging_next writable h.judging f (subst (λ (q : Row). Time t ≡ judged_of (writable q) q last) e g);
+            judging = judging_next writable h.judging f (subst (λ (q : Row). Ok t ≡ judged_of (writable q) q last) e g);
             total = omega (arith, h.total, ap (λ (ws : List ℕ). length ws) (more_left l w i f e), length-append (k.words w r) (walked k (k.next w r) (rest l (i + 1))));
           }
 

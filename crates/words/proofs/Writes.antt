@@ -1,15 +1,17 @@
 -- The invariant of a loop that writes words, over any format, and what each function that writes some of them has done.
-use mathlib.Core.Path.{◌≡◌, refl, sym, ◌∙◌, ap, subst}
-use Prim.Native.Nat.{ℕ, ◌+◌, ◌*◌, ◌≤◌}
+use mathlib.Core.Path.{◌≡◌, refl, sym, ◌∙◌, ap, ap₂, subst}
+use Prim.Native.Nat.{ℕ, ◌+◌, ◌-◌, ◌*◌, ◌≤◌}
 use native.Mathlib.Omega.{arith}
 use native.Mathlib.Nat.{add-mul}
 use mathlib.Core.List.{List, [], ◌∷◌, ◌++◌, append_assoc, append-nil}
-use lib.ListN.{length, length-append}
+use lib.ListN.{length, take, length-append}
 use lib.Seq.{sets, length-sets}
-use Rattle.rows.proofs.Stored.{sets_append}
+use borrow.Rule.Slice.PartMut.{put_mid}
+use Rattle.std.specs.Int.{w64, to_le_bytes}
+use Rattle.rows.proofs.Stored.{part_written, sets_append}
 use Rattle.words.specs.Words.{bytes_of, bytes_of_all}
 use Rattle.words.specs.Writer.{PutWords}
-use Rattle.words.proofs.Bytes.{bytes_length}
+use Rattle.words.proofs.Bytes.{bytes_length, lowest}
 
 -- the bytes of words: how many, and of one list of words after another
 pub all_length : (size : ℕ) (ws : List ℕ) → length (bytes_of_all size ws) ≡ length ws * size
@@ -24,12 +26,16 @@ all_append size (w ∷ a) b = ap (λ (l : List ℕ). bytes_of size w ++ l) (all_
 pub put_none : (size : ℕ) (old : List ℕ) (at : ℕ) → PutWords size [] old at old at
 put_none size old at = record { place = omega arith; wrote = refl }
 
--- one word, byte by byte
-pub put_stored : {size w at : ℕ} {old new : List ℕ} → new ≡ sets old at (bytes_of size w) → PutWords size (w ∷ []) old at new (at + size)
-put_stored {size} {w} {at} {old} h =
+-- one word, of the lowest bytes of a number
+pub put_lowest : (size w at : ℕ) {k j : ℕ} {old held bytes : List ℕ} → size ≤ 8 → at + size ≤ length old → k ≡ size → j ≡ size
+    → bytes ≡ to_le_bytes w64 w → held ≡ take j bytes → PutWords size (w ∷ []) old at (put_mid at (at + k - at) old held) (at + k)
+put_lowest size w at {k} {j} {old} {held} {bytes} small fits e f b h =
+    let own : held ≡ bytes_of size w = h ∙ ap₂ take f b ∙ lowest size w small in
     record {
-      place = omega arith;
-      wrote = h ∙ ap (sets old at) (sym (append-nil (bytes_of size w)));
+      place = omega (arith, e);
+      wrote =
+          part_written old at (at + k - at) held (bytes_of size w) own (omega (arith, e, bytes_length size w)) (omega (arith, fits, bytes_length size w))
+          ∙ ap (sets old at) (sym (append-nil (bytes_of size w)));
     }
 
 -- some words after others

@@ -8,10 +8,10 @@ use lib.ListN.{length}
 use lib.Seq.{sets}
 use lib.Dec.{leb}
 use borrow.Author.Tests.{le-leb, lt-leb, leb-false}
+use Rattle.std.specs.Prelude.{Result, Ok, Err}
 use Rattle.rows.specs.declared.fault.Fault.{Fault}
 use Rattle.rows.specs.declared.fault.Fault.TheVariants.{NoRoom, BadList}
-use Rattle.rows.specs.declared.fault.Writing.{Writing}
-use Rattle.rows.specs.declared.fault.Writing.TheVariants.{Written, Refused}
+use Rattle.rows.specs.declared.fault.WriteError.{WriteError}
 use Rattle.rows.specs.declared.fault.WritingNumbers.{WritingNumbers}
 use Rattle.rows.specs.Fault.{writing_numbers}
 use Rattle.rows.specs.Row.{rows_of}
@@ -24,21 +24,21 @@ use Rattle.words.specs.Promises.{RoomExact}
 use Rattle.words.proofs.Writes.{all_length}
 
 -- what an answer of `writing_of` says of the verdict
-same_written : (v : Verdict) {n m : ℕ} → Written n ≡ writing_of v m → (v ≡ accepted) × (n ≡ m)
+same_written : (v : Verdict) {n m : ℕ} → Ok n ≡ writing_of v m → (v ≡ accepted) × (n ≡ m)
 same_written accepted e = (refl, cc)
 same_written (refused f i) e = let z : ◌≡◌ {A = ℕ} 0 1 = cc in absurd (omega arith)
 
-same_refused : (v : Verdict) (m : ℕ) {f : Fault} {i : ℕ} → Refused f i ≡ writing_of v m → v ≡ refused f i
+same_refused : (v : Verdict) (m : ℕ) {e : WriteError} → Err e ≡ writing_of v m → v ≡ refused e.fault e.row
 same_refused accepted m e = let z : ◌≡◌ {A = ℕ} 0 1 = cc in absurd (omega arith)
 same_refused (refused g j) m e = cc
 
 module _ (s : Spelling) (l old : List ℕ) where
   -- the answer and the buffer of each verdict
-  as_refused : {f : Fault} {i : ℕ} → writing_verdict s l (length old) ≡ refused f i → WroteAs s l old old (Refused f i)
+  as_refused : {f : Fault} {i : ℕ} → writing_verdict s l (length old) ≡ refused f i → WroteAs s l old old (Err (record { fault = f; row = i }))
   as_refused e = record { answer = rw e; wrote = rw e }
 
   as_accepted : {new : List ℕ} → writing_verdict s l (length old) ≡ accepted → length (spelled s l) * s.size ≤ length old
-      → new ≡ sets old 0 (bytes_of_all s.size (spelled s l)) → WroteAs s l old new (Written (length (spelled s l)))
+      → new ≡ sets old 0 (bytes_of_all s.size (spelled s l)) → WroteAs s l old new (Ok (length (spelled s l)))
   as_accepted e f g =
       record {
         answer = rw e;
@@ -46,30 +46,30 @@ module _ (s : Spelling) (l old : List ℕ) where
       }
 
   -- the list's length is refused
-  pub wrote_bad_list : good_length (length l) ≡ false → WroteAs s l old old (Refused BadList 0)
+  pub wrote_bad_list : good_length (length l) ≡ false → WroteAs s l old old (Err (record { fault = BadList; row = 0 }))
   unfolding writing_verdict
   wrote_bad_list e = as_refused (rw (bad_list s.writable l e))
 
   -- the rows were judged and their words counted
-  module _ (good : good_length (length l) ≡ true) {counted : Writing} (is : counted ≡ writing_of (verdict_from s.writable (rows_of l) 0 0) (length (spelled s l))) where
+  module _ (good : good_length (length l) ≡ true) {counted : Result ℕ WriteError} (is : counted ≡ writing_of (verdict_from s.writable (rows_of l) 0 0) (length (spelled s l))) where
     judged : verdict_of s.writable l ≡ verdict_from s.writable (rows_of l) 0 0
     judged = good_list s.writable l good
 
-    pub wrote_refused : {f : Fault} {i : ℕ} → counted ≡ Refused f i → WroteAs s l old old (Refused f i)
+    pub wrote_refused : {e : WriteError} → counted ≡ Err e → WroteAs s l old old (Err e)
     unfolding writing_verdict
     wrote_refused e = as_refused (rw (judged, same_refused (verdict_from s.writable (rows_of l) 0 0) (length (spelled s l)) (sym e ∙ is)))
 
-    pub passed : {n : ℕ} → counted ≡ Written n → verdict_from s.writable (rows_of l) 0 0 ≡ accepted
+    pub passed : {n : ℕ} → counted ≡ Ok n → verdict_from s.writable (rows_of l) 0 0 ≡ accepted
     passed e = (same_written (verdict_from s.writable (rows_of l) 0 0) (sym e ∙ is)).0
 
-    pub word_count : {n : ℕ} → counted ≡ Written n → n ≡ length (spelled s l)
+    pub word_count : {n : ℕ} → counted ≡ Ok n → n ≡ length (spelled s l)
     word_count e = (same_written (verdict_from s.writable (rows_of l) 0 0) (sym e ∙ is)).1
 
-    pub wrote_full : {n : ℕ} → counted ≡ Written n → length old < n * s.size → WroteAs s l old old (Refused NoRoom 0)
+    pub wrote_full : {n : ℕ} → counted ≡ Ok n → length old < n * s.size → WroteAs s l old old (Err (record { fault = NoRoom; row = 0 }))
     unfolding writing_verdict
     wrote_full e f = as_refused (rw (judged, passed e, sym (word_count e), lt-leb _ _ f))
 
-    pub wrote_all : {n : ℕ} {new : List ℕ} → counted ≡ Written n → n * s.size ≤ length old → new ≡ sets old 0 (bytes_of_all s.size (spelled s l)) → WroteAs s l old new (Written n)
+    pub wrote_all : {n : ℕ} {new : List ℕ} → counted ≡ Ok n → n * s.size ≤ length old → new ≡ sets old 0 (bytes_of_all s.size (spelled s l)) → WroteAs s l old new (Ok n)
     unfolding writing_verdict
     wrote_all {n} e f g =
         rw (word_count e) (as_accepted (rw (judged, passed e, sym (word_count e), le-leb _ _ f)) (rw (sym (word_count e)) f) g)
@@ -89,5 +89,5 @@ room_exact s l bytes e =
     only false f g = leb-false _ _ f
 
 -- the same answer as numbers
-pub writes_numbers : {s : Spelling} {l old new : List ℕ} {r : Writing} {n : WritingNumbers} → WroteAs s l old new r → n ≡ writing_numbers r → WroteNumbers s l old new n
+pub writes_numbers : {s : Spelling} {l old new : List ℕ} {r : Result ℕ WriteError} {n : WritingNumbers} → WroteAs s l old new r → n ≡ writing_numbers r → WroteNumbers s l old new n
 writes_numbers h e = record { answer = e ∙ ap writing_numbers h.answer; wrote = h.wrote }

@@ -8,12 +8,13 @@ use lib.ListN.{length}
 use lib.Seq.{sets, length-sets}
 use lib.Dec.{leb}
 use borrow.Author.Tests.{le-leb, lt-leb, leb-true, leb-false}
+use Rattle.std.specs.Prelude.{Result, Ok, Err}
 use Rattle.rows.specs.declared.fault.Fault.{Fault}
 use Rattle.rows.specs.declared.row.Row.{Row}
 use Rattle.rows.specs.Row.{flat, room_of, PutRow}
 use Rattle.rows.proofs.Stored.{put_row_fits, put_row_full}
-use Rattle.words.specs.declared.Gave.{Gave}
-use Rattle.words.specs.declared.Gave.TheVariants.{Rows, Full, Refused}
+use Rattle.words.specs.declared.Stop.{Stop}
+use Rattle.words.specs.declared.Stop.TheVariants.{Full, Refused}
 use Rattle.words.specs.Machine.{Outcome, next, fault, Given, gives, refuses, onto}
 use Rattle.words.specs.Written.{given_of, GaveAs}
 
@@ -22,7 +23,7 @@ pub given_onto : {S : Type 0} (g : Given) (s : S) → given_of (onto g s) ≡ g
 given_onto (gives new) s = refl
 given_onto (refuses f) s = refl
 
-pub gave_onto : {S : Type 0} (s : S) {g : Given} {n : ℕ} {old buf : List ℕ} {r : Gave} → GaveAs g n old buf r → GaveAs (given_of (onto g s)) n old buf r
+pub gave_onto : {S : Type 0} (s : S) {g : Given} {n : ℕ} {old buf : List ℕ} {r : Result ℕ Stop} → GaveAs g n old buf r → GaveAs (given_of (onto g s)) n old buf r
 gave_onto s {g} {n} {old} {buf} {r} h = subst (λ (a : Given). GaveAs a n old buf r) (sym (given_onto g s)) h
 
 -- the next state of an outcome, which is `s` where it is refused
@@ -34,47 +35,44 @@ pub onto_given : {S : Type 0} (o : Outcome S) (s : S) → o ≡ onto (given_of o
 onto_given (next s' new) s = refl
 onto_given (fault f) s = refl
 
-pub no_refused_rows : {E : Type 0} {f : Fault} {n : ℕ} → Refused f ≡ Rows n → E
-no_refused_rows e = let z : ◌≡◌ {A = ℕ} 0 1 = cc in absurd (omega arith)
+pub no_stop : {E : Type 0} {r : Stop} {n : ℕ} → Err r ≡ Ok n → E
+no_stop e = let z : ◌≡◌ {A = ℕ} 0 1 = cc in absurd (omega arith)
 
-no_full_rows : {E : Type 0} {n : ℕ} → Full ≡ Rows n → E
-no_full_rows e = let z : ◌≡◌ {A = ℕ} 0 1 = cc in absurd (omega arith)
-
-no_refused_full : {E : Type 0} {f : Fault} → Refused f ≡ Full → E
+no_refused_full : {E : Type 0} {f : Fault} → ◌≡◌ {A = Result ℕ Stop} (Err (Refused f)) (Err Full) → E
 no_refused_full e = let z : ◌≡◌ {A = ℕ} 0 1 = cc in absurd (omega arith)
 
-same_rows : {m n : ℕ} → Rows m ≡ Rows n → m ≡ n
+same_rows : {m n : ℕ} → ◌≡◌ {A = Result ℕ Stop} (Ok m) (Ok n) → m ≡ n
 same_rows e = cc
 
-same_fault : {f g : Fault} → Refused f ≡ Refused g → f ≡ g
+same_fault : {f g : Fault} → ◌≡◌ {A = Result ℕ Stop} (Err (Refused f)) (Err (Refused g)) → f ≡ g
 same_fault e = cc
 
 -- a refused word
-pub gave_refused : (f : Fault) (n : ℕ) (old : List ℕ) → GaveAs (refuses f) n old old (Refused f)
+pub gave_refused : (f : Fault) (n : ℕ) (old : List ℕ) → GaveAs (refuses f) n old old (Err (Refused f))
 gave_refused f n old = record { answer = refl; wrote = refl }
 
 -- rows that fit and were written, or do not fit
 module _ (new : List Row) (n : ℕ) {old : List ℕ} where
-  pub gave_rows : {buf : List ℕ} {k : ℕ} → n + length new ≤ room_of old → buf ≡ sets old (n * 10) (flat new) → k ≡ n + length new → GaveAs (gives new) n old buf (Rows k)
-  gave_rows h b e = record { answer = simp (le-leb _ _ h) (ap Rows e); wrote = simp (le-leb _ _ h) b }
+  pub gave_rows : {buf : List ℕ} {k : ℕ} → n + length new ≤ room_of old → buf ≡ sets old (n * 10) (flat new) → k ≡ n + length new → GaveAs (gives new) n old buf (Ok k)
+  gave_rows h b e = record { answer = simp (le-leb _ _ h) (ap Ok e); wrote = simp (le-leb _ _ h) b }
 
-  pub gave_full : room_of old < n + length new → GaveAs (gives new) n old old Full
+  pub gave_full : room_of old < n + length new → GaveAs (gives new) n old old (Err Full)
   gave_full h = record { answer = simp (lt-leb _ _ h); wrote = simp (lt-leb _ _ h) }
 
 -- no row
-pub gave_none : (n : ℕ) (old : List ℕ) → n ≤ room_of old → GaveAs (gives []) n old old (Rows n)
+pub gave_none : (n : ℕ) (old : List ℕ) → n ≤ room_of old → GaveAs (gives []) n old old (Ok n)
 gave_none n old h = gave_rows [] n (omega arith) refl (omega arith)
 
 -- one row, by rows::put
 module _ {row : Row} {n : ℕ} {old buf : List ℕ} {r : Bool} (put : PutRow old n row buf r) where
-  pub gave_put : r ≡ true → GaveAs (gives (row ∷ [])) n old buf (Rows (n + 1))
+  pub gave_put : r ≡ true → GaveAs (gives (row ∷ [])) n old buf (Ok (n + 1))
   gave_put t = gave_rows (row ∷ []) n (omega (arith, (put_row_fits put t).0)) (put_row_fits put t).1 refl
 
-  pub gave_not_put : r ≡ false → GaveAs (gives (row ∷ [])) n old buf Full
+  pub gave_not_put : r ≡ false → GaveAs (gives (row ∷ [])) n old buf (Err Full)
   gave_not_put t = rw (put_row_full put t).1 (gave_full (row ∷ []) n (omega (arith, (put_row_full put t).0)))
 
 -- one row that another function made, by words::give
-pub gave_row : {row made : Row} → made ≡ row → {n : ℕ} {old buf : List ℕ} {r : Gave} → GaveAs (gives (made ∷ [])) n old buf r → GaveAs (gives (row ∷ [])) n old buf r
+pub gave_row : {row made : Row} → made ≡ row → {n : ℕ} {old buf : List ℕ} {r : Result ℕ Stop} → GaveAs (gives (made ∷ [])) n old buf r → GaveAs (gives (row ∷ [])) n old buf r
 gave_row e {n} {old} {buf} {r} h = subst (λ (q : Row). GaveAs (gives (q ∷ [])) n old buf r) e h
 
 -- what the answer says
@@ -85,22 +83,22 @@ pub record WroteAll (g : Given) (n : ℕ) (old buf : List ℕ) (k : ℕ) : Type 
   pub fits : n + length new ≤ room_of old
   pub wrote : buf ≡ sets old (n * 10) (flat new)
 
-pub gave_all : (g : Given) {n : ℕ} {old buf : List ℕ} {k : ℕ} → GaveAs g n old buf (Rows k) → WroteAll g n old buf k
-gave_all (refuses f) h = no_refused_rows (sym h.answer)
+pub gave_all : (g : Given) {n : ℕ} {old buf : List ℕ} {k : ℕ} → GaveAs g n old buf (Ok k) → WroteAll g n old buf k
+gave_all (refuses f) h = no_stop (sym h.answer)
 gave_all (gives new) {n} {old} {buf} {k} h = go (leb (n + length new) (room_of old)) refl h.answer h.wrote
   where
-    go : (t : Bool) → leb (n + length new) (room_of old) ≡ t → Rows k ≡ cond t (Rows (n + length new)) Full → buf ≡ cond t (sets old (n * 10) (flat new)) old
+    go : (t : Bool) → leb (n + length new) (room_of old) ≡ t → Ok k ≡ cond t (Ok (n + length new)) (Err Full) → buf ≡ cond t (sets old (n * 10) (flat new)) old
         → WroteAll (gives new) n old buf k
     go true e a b = record { new = new; given = refl; count = sym (same_rows a); fits = leb-true _ _ e; wrote = b }
-    go false e a b = no_full_rows (sym a)
+    go false e a b = no_stop (sym a)
 
 -- a refusal of the word's own
-pub gave_fault : (g : Given) {n : ℕ} {old buf : List ℕ} {f : Fault} → GaveAs g n old buf (Refused f) → (g ≡ refuses f) × (buf ≡ old)
+pub gave_fault : (g : Given) {n : ℕ} {old buf : List ℕ} {f : Fault} → GaveAs g n old buf (Err (Refused f)) → (g ≡ refuses f) × (buf ≡ old)
 gave_fault (refuses f') h = (ap refuses (sym (same_fault h.answer)), h.wrote)
 gave_fault (gives new) {n} {old} {buf} {f} h = go (leb (n + length new) (room_of old)) h.answer
   where
-    go : (t : Bool) → Refused f ≡ cond t (Rows (n + length new)) Full → (gives new ≡ refuses f) × (buf ≡ old)
-    go true a = no_refused_rows a
+    go : (t : Bool) → Err (Refused f) ≡ cond t (Ok (n + length new)) (Err Full) → (gives new ≡ refuses f) × (buf ≡ old)
+    go true a = no_stop a
     go false a = no_refused_full a
 
 -- no room for the rows
@@ -110,17 +108,17 @@ pub record WroteNone (g : Given) (n : ℕ) (old buf : List ℕ) : Type 0 where
   pub full : room_of old < n + length new
   pub wrote : buf ≡ old
 
-pub gave_nothing : (g : Given) {n : ℕ} {old buf : List ℕ} → GaveAs g n old buf Full → WroteNone g n old buf
+pub gave_nothing : (g : Given) {n : ℕ} {old buf : List ℕ} → GaveAs g n old buf (Err Full) → WroteNone g n old buf
 gave_nothing (refuses f) h = no_refused_full (sym h.answer)
 gave_nothing (gives new) {n} {old} {buf} h = go (leb (n + length new) (room_of old)) refl h.answer h.wrote
   where
-    go : (t : Bool) → leb (n + length new) (room_of old) ≡ t → Full ≡ cond t (Rows (n + length new)) Full → buf ≡ cond t (sets old (n * 10) (flat new)) old
+    go : (t : Bool) → leb (n + length new) (room_of old) ≡ t → Err Full ≡ cond t (Ok (n + length new)) (Err Full) → buf ≡ cond t (sets old (n * 10) (flat new)) old
         → WroteNone (gives new) n old buf
-    go true e a b = no_full_rows a
+    go true e a b = no_stop a
     go false e a b = record { new = new; given = refl; full = leb-false _ _ e; wrote = b }
 
 -- the length stays
-pub gave_length : (g : Given) {n : ℕ} {old buf : List ℕ} {r : Gave} → GaveAs g n old buf r → length buf ≡ length old
+pub gave_length : (g : Given) {n : ℕ} {old buf : List ℕ} {r : Result ℕ Stop} → GaveAs g n old buf r → length buf ≡ length old
 gave_length (refuses f) h = ap length h.wrote
 gave_length (gives new) {n} {old} {buf} {r} h = ap length h.wrote ∙ go (leb (n + length new) (room_of old))
   where

@@ -1,9 +1,7 @@
 -- Rows that are written and read back, said of what a writer and a reader promise, over any format. 01, demand 2.
-use Rattle.std.specs.Prelude.{◌≡◌, ℕ, ◌*◌, ◌≤◌, List, length, take}
-use Rattle.rows.specs.declared.fault.Reading.{Reading}
-use Rattle.rows.specs.declared.fault.Reading.TheVariants.{Finished}
-use Rattle.rows.specs.declared.fault.Writing.{Writing}
-use Rattle.rows.specs.declared.fault.Writing.TheVariants.{Written}
+use Rattle.std.specs.Prelude.{◌≡◌, ℕ, ◌*◌, ◌≤◌, List, length, take, Result, Ok}
+use Rattle.rows.specs.declared.fault.ReadError.{ReadError}
+use Rattle.rows.specs.declared.fault.WriteError.{WriteError}
 use Rattle.rows.specs.Row.{over, Narrow, room_of, rows_of}
 use Rattle.rows.specs.Rules.{accepted, verdict_of}
 use Rattle.rows.specs.Runs.{Run, ReadAs, Finishes}
@@ -17,9 +15,9 @@ ReadsBack s reading_of =
     → Finishes (reading_of (bytes_of_all s.size (spelled s l)) room) (rows_of l)
 
 -- the writer answered how many words there are and the reader how many rows, and the buffer that was read into begins with the list and is else as it was
-pub record CameBack (s : Spelling) (l old new : List ℕ) (w : Writing) (r : Reading) : Type 0 where
-  pub written : w ≡ Written (length (spelled s l))
-  pub finished : r ≡ Finished (room_of l)
+pub record CameBack (s : Spelling) (l old new : List ℕ) (w : Result ℕ WriteError) (r : Result ℕ ReadError) : Type 0 where
+  pub written : w ≡ Ok (length (spelled s l))
+  pub finished : r ≡ Ok (room_of l)
   pub back : new ≡ over l old
 
 -- what follows for its functions: every writable list comes back, where it was written into `out` with room for its words, and these words were read from
@@ -27,7 +25,7 @@ pub record CameBack (s : Spelling) (l old new : List ℕ) (w : Writing) (r : Rea
 abbrev pub ComesBack : {S : Type 0} → Spelling → (List ℕ → ℕ → Run S) → Type 0
 ComesBack s reading_of =
     (l : List ℕ) → Narrow l → verdict_of s.writable l ≡ accepted
-    → (out out' : List ℕ) (w : Writing) → length (spelled s l) * s.size ≤ length out → WroteAs s l out out' w
-    → (old new : List ℕ) (r : Reading) → room_of l ≤ room_of old
+    → (out out' : List ℕ) (w : Result ℕ WriteError) → length (spelled s l) * s.size ≤ length out → WroteAs s l out out' w
+    → (old new : List ℕ) (r : Result ℕ ReadError) → room_of l ≤ room_of old
     → ReadAs (reading_of (take (length (spelled s l) * s.size) out') (room_of old)) old new r
     → CameBack s l old new w r

@@ -1,7 +1,7 @@
 -- Words of a stream of bytes, the low byte first. 01, "What the box reads and writes".
-use Rattle.std.specs.Prelude.{ℕ, zero, suc, ◌+◌, ◌*◌, ◌/◌, ◌%◌, cond, List, [], ◌∷◌, ◌++◌, length, take, drop, ltb, eqb}
-use Rattle.words.specs.declared.Next.{Next}
-use Rattle.words.specs.declared.Next.TheVariants.{Word, Part, End}
+use Rattle.std.specs.Prelude.{ℕ, zero, suc, ◌+◌, ◌*◌, ◌/◌, ◌%◌, cond, List, [], ◌∷◌, ◌++◌, length, take, drop, ltb, eqb, Option, Some, None, Result, Ok, Err}
+use Rattle.rows.specs.declared.fault.Fault.{Fault}
+use Rattle.rows.specs.declared.fault.Fault.TheVariants.{Cut}
 
 -- the number that bytes make
 abbrev pub value : List ℕ → ℕ
@@ -26,13 +26,13 @@ cut_by (suc most) size l =
 unfoldable pub words_of : ℕ → List ℕ → Words
 words_of size l = cut_by (length l) size l
 
--- what a stream begins with, and what stands at a place of the bytes
-abbrev pub first_of : Words → Next
-first_of (word w r) = Word w
-first_of whole = End
-first_of part = Part
+-- what a stream begins with, a word, nothing, or a part, which is cut; and what stands at a place of the bytes
+abbrev pub first_of : Words → Option (Result ℕ Fault)
+first_of (word w r) = Some (Ok w)
+first_of whole = None
+first_of part = Some (Err Cut)
 
-abbrev pub next_at : ℕ → List ℕ → ℕ → Next
+abbrev pub next_at : ℕ → List ℕ → ℕ → Option (Result ℕ Fault)
 next_at size l at = first_of (words_of size (drop at l))
 
 -- the lowest `size` bytes of a word

@@ -1,9 +1,8 @@
 -- Writers of words, over any format: what a list of rows is written as, and what is refused. 01, "Refusal numbers" and "Spelling".
-use Rattle.std.specs.Prelude.{◌≡◌, ℕ, ◌+◌, ◌*◌, Bool, cond, List, length, leb}
+use Rattle.std.specs.Prelude.{◌≡◌, ℕ, ◌+◌, ◌*◌, Bool, cond, List, length, leb, Result, Ok, Err}
 use Rattle.std.proofs.lemmas.List.Edits.{sets}
 use Rattle.rows.specs.declared.fault.Fault.TheVariants.{NoRoom}
-use Rattle.rows.specs.declared.fault.Writing.{Writing}
-use Rattle.rows.specs.declared.fault.Writing.TheVariants.{Written, Refused}
+use Rattle.rows.specs.declared.fault.WriteError.{WriteError}
 use Rattle.rows.specs.declared.fault.WritingNumbers.{WritingNumbers}
 use Rattle.rows.specs.declared.row.Row.{Row}
 use Rattle.rows.specs.Fault.{writing_numbers}
@@ -35,9 +34,9 @@ unfoldable pub writing_verdict : Spelling → List ℕ → ℕ → Verdict
 writing_verdict s l bytes = then_judged (verdict_of s.writable l) (room_for s (length (spelled s l)) bytes)
 
 -- the answer to a verdict: the number of words, or the refusal and the row's index
-abbrev pub writing_of : Verdict → ℕ → Writing
-writing_of accepted words = Written words
-writing_of (refused f i) words = Refused f i
+abbrev pub writing_of : Verdict → ℕ → Result ℕ WriteError
+writing_of accepted words = Ok words
+writing_of (refused f i) words = Err (record { fault = f; row = i })
 
 -- what the buffer then holds: the bytes over its front, and all that it held where the list is refused
 abbrev pub written_over : Verdict → List ℕ → List ℕ → List ℕ
@@ -45,7 +44,7 @@ written_over accepted bytes old = over bytes old
 written_over (refused f i) bytes old = old
 
 -- a writer's promise, of every list and every buffer
-pub record WroteAs (s : Spelling) (l old new : List ℕ) (r : Writing) : Type 0 where
+pub record WroteAs (s : Spelling) (l old new : List ℕ) (r : Result ℕ WriteError) : Type 0 where
   pub answer : r ≡ writing_of (writing_verdict s l (length old)) (length (spelled s l))
   pub wrote : new ≡ written_over (writing_verdict s l (length old)) (bytes_of_all s.size (spelled s l)) old
 

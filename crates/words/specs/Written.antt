@@ -1,9 +1,9 @@
 -- What a function that writes a word's rows answers, and what it leaves in the buffer.
-use Rattle.std.specs.Prelude.{◌≡◌, ℕ, ◌+◌, ◌*◌, cond, List, length, leb}
+use Rattle.std.specs.Prelude.{◌≡◌, ℕ, ◌+◌, ◌*◌, cond, List, length, leb, Result, Ok, Err}
 use Rattle.std.proofs.lemmas.List.Edits.{sets}
 use Rattle.rows.specs.Row.{flat, room_of}
-use Rattle.words.specs.declared.Gave.{Gave}
-use Rattle.words.specs.declared.Gave.TheVariants.{Rows, Full, Refused}
+use Rattle.words.specs.declared.Stop.{Stop}
+use Rattle.words.specs.declared.Stop.TheVariants.{Full, Refused}
 use Rattle.words.specs.Machine.{Outcome, next, fault, Given, gives, refuses}
 
 -- what an outcome gives
@@ -12,9 +12,9 @@ given_of (next s new) = gives new
 given_of (fault f) = refuses f
 
 -- n rows are in a buffer that has room for `room`; a word's rows are added, all or none
-abbrev pub gave_of : Given → ℕ → ℕ → Gave
-gave_of (gives new) n room = cond (leb (n + length new) room) (Rows (n + length new)) Full
-gave_of (refuses f) n room = Refused f
+abbrev pub gave_of : Given → ℕ → ℕ → Result ℕ Stop
+gave_of (gives new) n room = cond (leb (n + length new) room) (Ok (n + length new)) (Err Full)
+gave_of (refuses f) n room = Err (Refused f)
 
 -- what the buffer then holds
 abbrev pub gave_to : Given → ℕ → List ℕ → List ℕ
@@ -22,6 +22,6 @@ gave_to (gives new) n old = cond (leb (n + length new) (room_of old)) (sets old 
 gave_to (refuses f) n old = old
 
 -- both
-pub record GaveAs (g : Given) (n : ℕ) (old new : List ℕ) (r : Gave) : Type 0 where
+pub record GaveAs (g : Given) (n : ℕ) (old new : List ℕ) (r : Result ℕ Stop) : Type 0 where
   pub answer : r ≡ gave_of g n (room_of old)
   pub wrote : new ≡ gave_to g n old

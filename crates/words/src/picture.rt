@@ -5,17 +5,10 @@ ghost use Rattle.words.specs.Picture.{good_picture, in_picture, admission_of};
 use rows::Fault;
 
 // The columns and lines that pixels may lie in.
-#[derive(Clone, Copy)]
+#[derive(Clone, Copy, Debug, PartialEq, Eq)]
 pub struct Picture {
     pub width: u32,
     pub height: u32,
-}
-
-// What a reader of words answers before the first word: it reads on, or refuses at place 0 without rows.
-#[derive(Clone, Copy)]
-pub enum Admission {
-    Admitted,
-    Refused(Fault),
 }
 
 impl Picture {
@@ -23,39 +16,28 @@ impl Picture {
     pub fn is_good(self) -> bool
         ensures { result ≡ good_picture self }
     {
-        if self.width < 1 {
-            return false;
-        }
-        if 2048 < self.width {
-            return false;
-        }
-        if self.height < 1 {
-            return false;
-        }
-        self.height <= 2048
+        (1..=2048).contains(&self.width) && (1..=2048).contains(&self.height)
     }
 
     // Whether a pixel lies in the picture.
+    #[tactic(auto, unfolding(crate::specs::Picture::in_picture))]
     pub fn holds(self, x: u32, y: u32) -> bool
         ensures { result ≡ in_picture self x y }
     {
-        if x < self.width {
-            return y < self.height;
-        }
-        false
+        x < self.width && y < self.height
     }
 }
 
-// Refusal 1 for too long an input, then 14 for a bad picture.
+// What comes before the first word, at place 0 and without rows: refusal 1 for too long an input, then 14 for a bad picture.
 #[tactic(auto, unfolding(crate::specs::Picture::admission_of))]
-pub fn admit(bytes: &[u8], picture: Picture) -> Admission
+pub fn admit(bytes: &[u8], picture: Picture) -> Result<(), Fault>
     ensures { result ≡ admission_of (length bytes.now) picture }
 {
     if 1073741824 < bytes.len() {
-        return Admission::Refused(Fault::TooLong);
+        return Err(Fault::TooLong);
     }
-    if picture.is_good() {
-        return Admission::Admitted;
+    if !picture.is_good() {
+        return Err(Fault::BadPicture);
     }
-    Admission::Refused(Fault::BadPicture)
+    Ok(())
 }

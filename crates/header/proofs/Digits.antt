@@ -8,10 +8,9 @@ use mathlib.Core.List.{List, [], ◌∷◌}
 use lib.ListN.{length, drop, get_or, drop_of_length-le}
 use lib.Dec.{leb, eqb}
 use borrow.Author.Tests.{le-leb, lt-leb, ne_eqb, leb-true}
-use Rattle.rows.proofs.GoodRows.{and_first, and_second}
-use Rattle.header.specs.declared.value.Value.{Value}
-use Rattle.header.specs.declared.value.Value.TheVariants.{Number, Malformed}
-use Rattle.header.specs.Sides.{is_digit, are_digits, decimal, number_of, spaced, value_of}
+use Rattle.rows.proofs.GoodRows.{and_second}
+use Rattle.std.proofs.Common.{Option, Some, None}
+use Rattle.header.specs.Sides.{is_digit, digit_of, are_digits, decimal, number_of, spaced, value_of}
 use Rattle.rows.proofs.Chosen.{cond_holds}
 use Rattle.header.proofs.LineEnds.{drop_at}
 
@@ -29,20 +28,32 @@ tens_few (suc (suc (suc zero))) h = omega arith
 tens_few (suc (suc (suc (suc zero)))) h = omega arith
 tens_few (suc (suc (suc (suc (suc i))))) h = absurd (omega arith)
 
-pub number_short : (d : List ℕ) → length d < 1 → Malformed ≡ number_of d
+pub number_short : (d : List ℕ) → length d < 1 → None ≡ number_of d
 unfolding number_of
 number_short d h = simp (lt-leb _ _ h)
 
-pub number_long : (d : List ℕ) → 5 < length d → Malformed ≡ number_of d
+pub number_long : (d : List ℕ) → 5 < length d → None ≡ number_of d
 unfolding number_of
 number_long d h = simp (le-leb 1 (length d) (omega arith), lt-leb _ _ h)
 
-not_number : (d : List ℕ) → are_digits d ≡ false → number_of d ≡ Malformed
+not_number : (d : List ℕ) → are_digits d ≡ false → number_of d ≡ None
 unfolding number_of
-not_number d h = rw h (ap (λ (b : Bool). cond b (Number (decimal 0 d)) Malformed) (and-false (leb 1 (length d) && leb (length d) 5)))
+not_number d h = rw h (ap (λ (b : Bool). cond b (Some (decimal 0 d)) None) (and-false (leb 1 (length d) && leb (length d) 5)))
 
-digit_in : (c : ℕ) → is_digit c ≡ true → (48 ≤ c) × (c ≤ 57)
-digit_in c q = (leb-true 48 c (and_first (leb 48 c) (leb c 57) q), leb-true c 57 (and_second (leb 48 c) (leb c 57) q))
+-- what the value of a byte tells
+record Digit (c v : ℕ) : Type 0 where
+  is : is_digit c ≡ true
+  value : v ≡ c - 48
+  small : v < 10
+
+a_digit : (c v : ℕ) → Some v ≡ digit_of c → Digit c v
+a_digit c v =
+    cond_holds (λ (o : Option ℕ). Some v ≡ o → Digit c v) (is_digit c)
+    (λ t e. let w : v ≡ c - 48 = cc in record { is = t; value = w; small = omega (arith, leb-true c 57 (and_second (leb 48 c) (leb c 57) t)) })
+    (λ t e. absurd cc)
+
+no_digit : (c : ℕ) → None ≡ digit_of c → is_digit c ≡ false
+no_digit c = cond_holds (λ (o : Option ℕ). None ≡ o → is_digit c ≡ false) (is_digit c) (λ t e. absurd cc) (λ t e. t)
 
 -- i digits make the number n
 pub record Counted (d : List ℕ) (n i : ℕ) : Type 0 where
@@ -63,42 +74,36 @@ module _ {d : List ℕ} {n i : ℕ} (h : Counted d n i) where
   unfolding are_digits
   here p = h.digits ∙ ap are_digits (drop_at d i p)
 
-  -- a byte that is no digit
-  pub counted_other : i < length d → is_digit (get_or d i 0) ≡ false → Malformed ≡ number_of d
-  counted_other p q = sym (not_number d (here p ∙ ap (λ (b : Bool). b && are_digits (drop (i + 1) d)) q))
+  module _ (p : i < length d) where
+    -- a byte that is no digit
+    pub counted_other : None ≡ digit_of (get_or d i 0) → None ≡ number_of d
+    counted_other q = sym (not_number d (here p ∙ ap (λ (b : Bool). b && are_digits (drop (i + 1) d)) (no_digit (get_or d i 0) q)))
 
-  -- a digit
-  pub counted_digit : is_digit (get_or d i 0) ≡ true → (48 ≤ get_or d i 0) × (get_or d i 0 ≤ 57)
-  counted_digit q = digit_in (get_or d i 0) q
+    -- a digit
+    module _ {v : ℕ} (q : Some v ≡ digit_of (get_or d i 0)) where
+      digit : Digit (get_or d i 0) v
+      digit = a_digit (get_or d i 0) v q
 
-  pub counted_next : i < length d → is_digit (get_or d i 0) ≡ true → Counted d (n * 10 + (get_or d i 0 - 48)) (i + 1)
-  unfolding decimal tens
-  counted_next p q =
-      record {
-        digits = here p ∙ ap (λ (b : Bool). b && are_digits (drop (i + 1) d)) q;
-        same = h.same ∙ ap (decimal n) (drop_at d i p);
-        small = rw (add-one i) (omega (arith, h.small, digit_in (get_or d i 0) q));
-      }
+      pub counted_fits : length d ≤ 5 → n * 10 + v < 100000
+      counted_fits few = omega (arith, counted_small p few, digit.small)
 
-  pub counted_all : 1 ≤ length d → length d ≤ 5 → length d ≤ i → Number n ≡ number_of d
+      pub counted_next : Counted d (n * 10 + v) (i + 1)
+      unfolding decimal tens
+      counted_next =
+          record {
+            digits = here p ∙ ap (λ (b : Bool). b && are_digits (drop (i + 1) d)) digit.is;
+            same = h.same ∙ ap (decimal n) (drop_at d i p) ∙ ap (λ (m : ℕ). decimal (n * 10 + m) (drop (i + 1) d)) (sym digit.value);
+            small = rw (add-one i) (omega (arith, h.small, digit.small));
+          }
+
+  pub counted_all : 1 ≤ length d → length d ≤ 5 → length d ≤ i → Some n ≡ number_of d
   unfolding number_of are_digits decimal
   counted_all p q r =
       let none : drop i d ≡ [] = drop_of_length-le d r in
       simp (le-leb _ _ p, le-leb _ _ q, h.digits, h.same, none)
 
--- a value that is empty
-pub spaced_none : (t : List ℕ) → length t < 1 → Malformed ≡ spaced t
-unfolding spaced
-spaced_none [] h = refl
-spaced_none (c ∷ t) h = absurd (omega arith)
-
-pub value_none : (t : List ℕ) → length t < 1 → Malformed ≡ value_of t
-unfolding value_of spaced
-value_none [] h = refl
-value_none (c ∷ t) h = absurd (omega arith)
-
-abbrev malformed : Value → Type 0
-malformed v = v ≡ Malformed
+abbrev malformed : Option ℕ → Type 0
+malformed v = v ≡ None
 
 -- a byte that is no digit, no space and no colon, anywhere in a value
 module _ (c : ℕ) (digit : is_digit c ≡ false) (space : c ≡ 32 → ⊥) (colon : c ≡ 58 → ⊥) where
@@ -108,13 +113,13 @@ module _ (c : ℕ) (digit : is_digit c ≡ false) (space : c ≡ 32 → ⊥) (co
   not_digits (a ∷ d) zero p e = ap (λ (b : ℕ). is_digit b && are_digits d) e ∙ ap (λ (b : Bool). b && are_digits d) digit
   not_digits (a ∷ d) (suc i) p e = ap (λ (b : Bool). is_digit a && b) (not_digits d i (omega arith) e) ∙ and-false (is_digit a)
 
-  not_spaced : (t : List ℕ) (i : ℕ) → i < length t → get_or t i 0 ≡ c → spaced t ≡ Malformed
+  not_spaced : (t : List ℕ) (i : ℕ) → i < length t → get_or t i 0 ≡ c → spaced t ≡ None
   unfolding spaced
   not_spaced [] i p e = absurd (omega arith)
   not_spaced (a ∷ t) zero p e = simp (ne_eqb a 32 (λ f. space (sym e ∙ f)))
   not_spaced (a ∷ t) (suc i) p e = cond_holds malformed (eqb a 32) (λ f. not_number t (not_digits t i (omega arith) e)) (λ f. refl)
 
-  pub not_value : (t : List ℕ) (i : ℕ) → i < length t → get_or t i 0 ≡ c → value_of t ≡ Malformed
+  pub not_value : (t : List ℕ) (i : ℕ) → i < length t → get_or t i 0 ≡ c → value_of t ≡ None
   unfolding value_of
   not_value [] i p e = absurd (omega arith)
   not_value (a ∷ t) zero p e = simp (ne_eqb a 58 (λ f. colon (sym e ∙ f))) (not_spaced (a ∷ t) zero p e)

@@ -1,50 +1,20 @@
--- The end of a keyword, sought byte by byte.
-use mathlib.Core.Path.{◌≡◌, sym, ◌∙◌, ap}
-use Prim.Native.Nat.{ℕ, suc, ◌+◌, ◌≤◌, ◌<◌}
-use native.Mathlib.Omega.{arith}
-use mathlib.Core.Bool.{Bool, true, false, cond}
-use mathlib.Core.List.{List, [], ◌∷◌}
-use lib.ListN.{length, take, drop, get_or, drop_of_length-le}
-use lib.Seq.{length-take-le}
-use borrow.Author.Tests.{eq-eqb, ne_eqb}
-use Rattle.header.specs.Sides.{ends_keyword, keyword_length}
+-- The end of a keyword, by the place of the first byte that ends it; and the names, in any letter case.
+use Rattle.std.proofs.Common.{◌≡◌, refl, sym, ◌∙◌, ap, ℕ, suc, ◌≤◌, Bool, true, false, cond, List, [], ◌∷◌, length, arith, Option, map, ◌&&◌, eqb, ap₂}
+use Rattle.std.specs.List.{position, position_or_len}
+use Rattle.std.specs.Option.{unwrap_or}
+use Rattle.std.specs.Char.{to_ascii_lowercase}
+use Rattle.std.proofs.lemmas.List.Recursion.{is_position_or_len}
+use Rattle.std.specs.Str.{bytes_eq}
+use Rattle.std.proofs.lemmas.Slice.Eq.{bytes_eq-Decides}
+use Rattle.std.proofs.lemmas.Bool.Decides.{nat_tests}
 use Rattle.rows.proofs.Chosen.{cond_holds}
-use Rattle.header.proofs.LineEnds.{drop_at}
+use Rattle.header.specs.Texts.{same_as}
+use Rattle.header.specs.Sides.{ends_keyword, keyword_length, lower, named}
 
--- the keyword is at least i bytes long
-pub record Reaching (t : List ℕ) (i : ℕ) : Type 0 where
-  pub same : keyword_length t ≡ i + keyword_length (drop i t)
-
-pub reaching_none : {t : List ℕ} → Reaching t 0
-reaching_none = record { same = omega arith }
-
-module _ {t : List ℕ} {i : ℕ} (h : Reaching t i) where
-  here : i < length t → {b : Bool} → ends_keyword (get_or t i 0) ≡ b → keyword_length t ≡ i + cond b 0 (suc (keyword_length (drop (i + 1) t)))
-  unfolding keyword_length
-  here p e =
-      h.same ∙ ap (λ (l : List ℕ). i + keyword_length l) (drop_at t i p)
-      ∙ ap (λ (b : Bool). i + cond b 0 (suc (keyword_length (drop (i + 1) t)))) e
-
-  ends : i < length t → ends_keyword (get_or t i 0) ≡ true → i ≡ keyword_length t
-  ends p e = omega (arith, here p e)
-
-  pub reaching_space : i < length t → get_or t i 0 ≡ 32 → i ≡ keyword_length t
-  reaching_space p e = ends p (simp (eq-eqb _ _ e))
-
-  module _ (p : i < length t) (n : get_or t i 0 ≡ 32 → ⊥) where
-    pub reaching_colon : get_or t i 0 ≡ 58 → i ≡ keyword_length t
-    reaching_colon e = ends p (simp (ne_eqb _ _ n, eq-eqb _ _ e))
-
-    pub reaching_next : (get_or t i 0 ≡ 58 → ⊥) → Reaching t (i + 1)
-    reaching_next m =
-        let f : ends_keyword (get_or t i 0) ≡ false = simp (ne_eqb _ _ n, ne_eqb _ _ m) in
-        record { same = omega (arith, here p f) }
-
-  pub reaching_end : length t ≤ i → i ≡ keyword_length t
-  unfolding keyword_length
-  reaching_end p =
-      let g : keyword_length t ≡ i + keyword_length [] = h.same ∙ ap (λ (l : List ℕ). i + keyword_length l) (drop_of_length-le t p) in
-      omega arith
+-- a keyword ends at the first byte that ends it, or at the text's end
+pub keyword_place : (t : List ℕ) → keyword_length t ≡ position_or_len ends_keyword t
+unfolding keyword_length
+keyword_place = is_position_or_len keyword_length ends_keyword refl (λ c t. ap (cond (ends_keyword c) 0) (omega arith))
 
 -- a keyword lies in its text
 pub keyword_in : (t : List ℕ) → keyword_length t ≤ length t
@@ -52,5 +22,25 @@ unfolding keyword_length
 keyword_in [] = omega arith
 keyword_in (c ∷ t) = cond_holds (λ (n : ℕ). n ≤ suc (length t)) (ends_keyword c) (λ e. omega arith) (λ e. omega (arith, keyword_in t))
 
-pub keyword_taken : (t : List ℕ) {n : ℕ} → n ≡ keyword_length t → n ≡ length (take n t)
-keyword_taken t {n} e = sym (length-take-le n t (omega (arith, keyword_in t)))
+pub keyword_found : (t : List ℕ) {o : Option ℕ} → o ≡ position ends_keyword t → unwrap_or o (length t) ≡ keyword_length t
+keyword_found t {o} e = let p = keyword_place t in grind (arith, nat_tests, keyword_in t)
+
+lower_is : (c : ℕ) → lower c ≡ to_ascii_lowercase c
+unfolding lower
+lower_is c = grind (arith, nat_tests)
+
+named_as : (k name : List ℕ) → named k name ≡ bytes_eq (map to_ascii_lowercase k) name
+unfolding same_as
+named_as [] [] = refl
+named_as [] (d ∷ u) = refl
+named_as (c ∷ t) [] = refl
+named_as (c ∷ t) (d ∷ u) = ap₂ (λ (n : ℕ) (b : Bool). eqb n d && b) (lower_is c) (named_as t u)
+
+-- what a test of a keyword in lower case tells
+pub named_if : (k name : List ℕ) (r : Bool) → (r ≡ true → map to_ascii_lowercase k ≡ name) × (map to_ascii_lowercase k ≡ name → r ≡ true) → r ≡ named k name
+named_if k name true h = sym (named_as k name ∙ (bytes_eq-Decides (map to_ascii_lowercase k) name).1 (h.0 refl))
+named_if k name false h = go (named k name) refl
+  where
+    go : (t : Bool) → named k name ≡ t → false ≡ t
+    go true e = h.1 ((bytes_eq-Decides (map to_ascii_lowercase k) name).0 (sym (named_as k name) ∙ e))
+    go false e = refl

@@ -6,5 +6,5 @@ pub mod Kept
 pub mod LineEnds
 pub mod LineRules
 pub mod Lines
-pub mod Texts
+pub mod Sides
 pub mod Within

@@ -1,12 +1,8 @@
 -- What a line says of the picture. 01, "Files": keywords, and the values of width and height.
-use Rattle.std.specs.Prelude.{ℕ, suc, ◌+◌, ◌-◌, ◌*◌, Bool, true, cond, ◌&&◌, ◌||◌, List, [], ◌∷◌, length, get_or, take, drop, leb, eqb}
+use Rattle.std.specs.Prelude.{ℕ, suc, ◌+◌, ◌-◌, ◌*◌, Bool, true, false, cond, ◌&&◌, ◌||◌, List, [], ◌∷◌, length, get_or, take, drop, leb, eqb, Option, Some, None}
 use Rattle.header.specs.declared.side.Side.{Side}
-use Rattle.header.specs.declared.side.Side.TheVariants.{Width, Height, Other}
+use Rattle.header.specs.declared.side.Side.TheVariants.{Width, Height}
 use Rattle.header.specs.declared.side.Sides.{Sides}
-use Rattle.header.specs.declared.side.Judged.{Judged}
-use Rattle.header.specs.declared.side.Judged.TheVariants.{Good, Bad}
-use Rattle.header.specs.declared.value.Value.{Value}
-use Rattle.header.specs.declared.value.Value.TheVariants.{Number, Malformed}
 use Rattle.header.specs.Texts.{same_as}
 
 -- a keyword runs up to a space, a colon or the end of the line's text
@@ -32,12 +28,16 @@ width_name = 119 ∷ 105 ∷ 100 ∷ 116 ∷ 104 ∷ []
 abbrev pub height_name : List ℕ
 height_name = 104 ∷ 101 ∷ 105 ∷ 103 ∷ 104 ∷ 116 ∷ []
 
-unfoldable pub side_of : List ℕ → Side
-side_of k = cond (named k width_name) Width (cond (named k height_name) Height Other)
+-- a keyword that is no name names no side
+unfoldable pub side_of : List ℕ → Option Side
+side_of k = cond (named k width_name) (Some Width) (cond (named k height_name) (Some Height) None)
 
 -- digits 0 to 9, and the number that they make after what stands before them
 abbrev pub is_digit : ℕ → Bool
 is_digit c = leb 48 c && leb c 57
+
+abbrev pub digit_of : ℕ → Option ℕ
+digit_of c = cond (is_digit c) (Some (c - 48)) None
 
 unfoldable pub are_digits : List ℕ → Bool
 are_digits [] = true
@@ -48,40 +48,47 @@ decimal before [] = before
 decimal before (c ∷ d) = decimal (before * 10 + (c - 48)) d
 
 -- one to five digits, up to the newline
-unfoldable pub number_of : List ℕ → Value
-number_of d = cond (leb 1 (length d) && leb (length d) 5 && are_digits d) (Number (decimal 0 d)) Malformed
+unfoldable pub number_of : List ℕ → Option ℕ
+number_of d = cond (leb 1 (length d) && leb (length d) 5 && are_digits d) (Some (decimal 0 d)) None
 
 -- one space before them
-unfoldable pub spaced : List ℕ → Value
-spaced t = cond (eqb (get_or t 0 0) 32) (number_of (drop 1 t)) Malformed
+unfoldable pub spaced : List ℕ → Option ℕ
+spaced t = cond (eqb (get_or t 0 0) 32) (number_of (drop 1 t)) None
 
 -- and before it a colon, or none: what follows the keyword
-unfoldable pub value_of : List ℕ → Value
+unfoldable pub value_of : List ℕ → Option ℕ
 value_of t = cond (eqb (get_or t 0 0) 58) (spaced (drop 1 t)) (spaced t)
 
+-- before the first line nothing is known of the picture
+abbrev pub unsaid : Sides
+unsaid = record { width = None; height = None }
+
+-- what is known of a side, and with the value that a line says
+abbrev pub said : Side → Sides → Option ℕ
+said Width s = s.width
+said Height s = s.height
+
+abbrev pub with_side : Side → ℕ → Sides → Sides
+with_side Width n s = record { width = Some n; height = s.height }
+with_side Height n s = record { width = s.width; height = Some n }
+
 -- a side that is said for the first time, from 1 to the limit
-abbrev pub may_be : ℕ → ℕ → ℕ → Bool
-may_be limit before n = eqb before 0 && leb 1 n && leb n limit
+abbrev pub may_be : ℕ → Option ℕ → ℕ → Bool
+may_be limit None n = leb 1 n && leb n limit
+may_be limit (Some before) n = false
 
--- a line of the keyword width; malformed, 0, too large or said before: bad
-abbrev pub with_width : ℕ → Value → Sides → Judged
-with_width limit (Number n) s = cond (may_be limit s.width n) (Good (record { width = n; height = s.height })) Bad
-with_width limit Malformed s = Bad
+-- a line of a side's keyword; malformed, 0, too large or said before: bad, which is None
+abbrev pub with_value : Side → ℕ → Option ℕ → Sides → Option Sides
+with_value side limit (Some n) s = cond (may_be limit (said side s) n) (Some (with_side side n s)) None
+with_value side limit None s = None
 
--- of the keyword height
-abbrev pub with_height : ℕ → Value → Sides → Judged
-with_height limit (Number n) s = cond (may_be limit s.height n) (Good (record { width = s.width; height = n })) Bad
-with_height limit Malformed s = Bad
+abbrev pub judged_as : Side → ℕ → List ℕ → Sides → Option Sides
+judged_as side limit value s = with_value side limit (value_of value) s
 
 -- a line by what its keyword names; any other is passed over, whatever it holds
-abbrev pub judged_as : Side → ℕ → List ℕ → Sides → Judged
-judged_as Width limit value s = with_width limit (value_of value) s
-judged_as Height limit value s = with_height limit (value_of value) s
-judged_as Other limit value s = Good s
+abbrev pub judged_by : Option Side → ℕ → List ℕ → Sides → Option Sides
+judged_by (Some side) limit value s = judged_as side limit value s
+judged_by None limit value s = Some s
 
-unfoldable pub judged_of : ℕ → List ℕ → Sides → Judged
-judged_of limit text s = judged_as (side_of (take (keyword_length text) text)) limit (drop (keyword_length text) text) s
-
--- a side that no line says is the limit
-abbrev pub or_limit : ℕ → ℕ → ℕ
-or_limit limit side = cond (eqb side 0) limit side
+unfoldable pub judged_of : ℕ → List ℕ → Sides → Option Sides
+judged_of limit text s = judged_by (side_of (take (keyword_length text) text)) limit (drop (keyword_length text) text) s

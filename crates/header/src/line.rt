@@ -2,40 +2,23 @@
 ghost use Rattle.std.specs.Prelude.{◌≡◌};
 ghost use Rattle.header.specs.Lines.{is_line, line_end};
 
-// Where a line's newline stands, counted from its first byte; or the input ends before it; or it is too far away.
-#[derive(Clone, Copy)]
-pub enum Line {
-    Ends(usize),
-    Cut,
-    Endless,
-}
+use rows::Fault;
 
 // Whether a line of the header stands at the front: a percent sign and a space.
 pub(crate) fn is_line(bytes: &[u8]) -> bool
     ensures { result ≡ is_line bytes.now }
 {
-    if bytes.len() < 2 {
-        return false;
-    }
-    if bytes[0] == 37 {
-        return bytes[1] == 32;
-    }
-    false
+    bytes.starts_with(b"% ")
 }
 
-// The end of the line at the front: the first newline among its first `most` bytes.
-pub fn line_end(bytes: &[u8], most: usize) -> Line
+// The end of the line at the front: the first newline among its first `most` bytes. Refused 4 where the input ends before it, and 9
+// where it is too far away.
+pub fn line_end(bytes: &[u8], most: usize) -> Result<usize, Fault>
     ensures { result ≡ line_end most bytes.now 0 }
 {
-    let mut i: usize = 0;
-    while i < most {
-        if bytes.len() <= i {
-            return Line::Cut;
-        }
-        if bytes[i] == 10 {
-            return Line::Ends(i);
-        }
-        i += 1;
+    match bytes.iter().take(most).position(|c| *c == b'\n') {
+        Some(i) => Ok(i),
+        None if bytes.len() < most => Err(Fault::Cut),
+        None => Err(Fault::BadHeader),
     }
-    Line::Endless
 }

@@ -1,51 +1,49 @@
 // The value of a width or a height.
 ghost use Rattle.std.specs.Prelude.{◌≡◌};
-ghost use Rattle.header.specs.Sides.{number_of, spaced, value_of};
+ghost use Rattle.header.specs.Sides.{digit_of, number_of, spaced, value_of};
 
-use crate::number::number_of_few;
-
-// A whole number, or something else.
-#[derive(Clone, Copy)]
-pub(crate) enum Value {
-    Number(u32),
-    Malformed,
+// The value of a digit. Any other byte has none, a comma or a point too.
+fn digit_of(c: u8) -> Option<u32>
+    ensures { result ≡ digit_of c }
+{
+    match c {
+        b'0'..=b'9' => Some((c - b'0') as u32),
+        _ => None,
+    }
 }
 
-// The number of one to five digits.
-fn number_of(digits: &[u8]) -> Value
+// The number of one to five digits. Any other byte among them makes it malformed: none is passed over.
+fn number_of(digits: &[u8]) -> Option<u32>
     ensures { result ≡ number_of digits.now }
 {
-    if digits.len() < 1 {
-        return Value::Malformed;
+    if digits.is_empty() || 5 < digits.len() {
+        return None;
     }
-    if 5 < digits.len() {
-        return Value::Malformed;
+    let mut n: u32 = 0;
+    for c in digits {
+        n = n * 10 + digit_of(*c)?;
     }
-    number_of_few(digits)
+    Some(n)
 }
 
 // One space, and a number.
-fn spaced(text: &[u8]) -> Value
+#[tactic(auto, unfolding(crate::specs::Sides::spaced))]
+fn spaced(text: &[u8]) -> Option<u32>
     ensures { result ≡ spaced text.now }
 {
-    if text.len() < 1 {
-        return Value::Malformed;
+    match text {
+        [b' ', digits @ ..] => number_of(digits),
+        _ => None,
     }
-    if text[0] == 32 {
-        return number_of(&text[1..]);
-    }
-    Value::Malformed
 }
 
 // What stands after the keyword: an optional colon, one space, a number.
-pub(crate) fn value_of(text: &[u8]) -> Value
+#[tactic(auto, unfolding(crate::specs::Sides::value_of))]
+pub(crate) fn value_of(text: &[u8]) -> Option<u32>
     ensures { result ≡ value_of text.now }
 {
-    if text.len() < 1 {
-        return Value::Malformed;
+    match text {
+        [b':', number @ ..] => spaced(number),
+        _ => spaced(text),
     }
-    if text[0] == 58 {
-        return spaced(&text[1..]);
-    }
-    spaced(text)
 }

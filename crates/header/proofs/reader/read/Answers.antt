@@ -1,33 +1,37 @@
 -- `header::reader::read` meets its contract.
+use Rattle.std.proofs.Common.{◌≡◌, sym, ◌∙◌, arith, rules, Ok, Err, Some, None}
 use Rattle.header.proofs.LineRules.{line_then}
 use Rattle.header.proofs.Lines.{header_start, header_long, good_line_in, good_line_read}
-use native.Mathlib.Omega.{arith}
-use mathlib.Core.Path.{sym}
 use Rattle.header.proofs.reader.read.Goals as goal
+use Rattle.header.proofs.reader.read.Goals.{In-Some}
 
 pub returns-then-bytes-gt1073741824 : goal.returns-then-bytes-gt1073741824
 returns-then-bytes-gt1073741824 c = header_long _ _ c.if-bytes-gt1073741824.true
 
-pub loop-fault-init : goal.loop-fault-init
-loop-fault-init c = header_start c.if-bytes-gt1073741824.false
+pub loop-line-init : goal.loop-line-init
+loop-line-init c = rw c.unsaid-sides.ensures (header_start c.if-bytes-gt1073741824.false)
 
-pub returns-in-Over : goal.returns-in-Over
-returns-in-Over c =
-    rw (c.or_limit.ensures, c.or_limit-in-Over.ensures)
-    (sym (line_then c.loop-fault.invariant c.read_line-found.ensures c.in-Over.is))
+pub returns-in_err-line : goal.returns-in_err-line
+returns-in_err-line c =
+    let e : c.read_line.result ≡ Err c.in_err-line.field-0.0.fault = search rules in
+    let r : c.from_residual.result ≡ Err (record { fault = c.in_err-line.field-0.0.fault; place = c.loop-line.at }) = search rules in
+    r ∙ sym (line_then c.loop-line.invariant c.read_line.ensures e)
 
-pub returns-in-Stop : goal.returns-in-Stop
-returns-in-Stop c =
-    sym (line_then c.loop-fault.invariant c.read_line-found.ensures c.in-Stop.is)
+said : (c : In-Some) → c.read_line.result ≡ Ok (Some c.in-Some.line)
+said c = search rules
 
 pub overflow_add-at : goal.overflow_add-at
 overflow_add-at c =
-    omega (arith, good_line_in c.loop-fault.invariant c.read_line-found.ensures c.in-More.is, c.loop-fault.invariant.within)
+    omega (arith, good_line_in c.loop-line.invariant c.read_line.ensures (said (goal.at.overflow_add-at c).In-Some), c.loop-line.invariant.within)
 
-pub loop-fault-smaller : goal.loop-fault-smaller
-loop-fault-smaller c =
-    omega (arith, good_line_in c.loop-fault.invariant c.read_line-found.ensures c.in-More.is, c.loop-fault.invariant.within)
+pub loop-line-smaller : goal.loop-line-smaller
+loop-line-smaller c =
+    omega (arith, good_line_in c.loop-line.invariant c.read_line.ensures (said (goal.at.loop-line-smaller c).In-Some), c.loop-line.invariant.within)
 
-pub loop-fault-preserved : goal.loop-fault-preserved
-loop-fault-preserved c =
-    good_line_read c.loop-fault.invariant c.read_line-found.ensures c.in-More.is
+pub loop-line-preserved : goal.loop-line-preserved
+loop-line-preserved c = good_line_read c.loop-line.invariant c.read_line.ensures (said (goal.at.loop-line-preserved c).In-Some)
+
+pub returns : goal.returns
+returns c =
+    let e : c.read_line.result ≡ Ok None = search rules in
+    rw (c.unwrap_or.ensures, c.unwrap_or-2.ensures) (sym (line_then c.loop-line.invariant c.read_line.ensures e))

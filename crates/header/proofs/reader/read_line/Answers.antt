@@ -1,40 +1,43 @@
 -- `header::reader::read_line` meets its contract.
+use Rattle.std.proofs.Common.{◌≡◌, refl, sym, ◌∙◌, arith, rules, Err, ◌≤◌, ◌<◌, length}
+use Rattle.header.specs.Header.{step_of}
 use Rattle.header.proofs.LineEnds.{line_in}
-use Rattle.header.proofs.Lines.{step_over, step_cut, step_endless, step_bad, step_good}
-use native.Mathlib.Omega.{arith}
-use mathlib.Core.Path.{sym, ◌∙◌}
+use Rattle.header.proofs.Sides.{judged_bad, judged_good}
 use Rattle.header.proofs.reader.read_line.Goals as goal
+use Rattle.header.proofs.reader.read_line.Goals.{In_ok-end}
+
+pub returns-then-not-is_line : goal.returns-then-not-is_line
+unfolding step_of
+returns-then-not-is_line c = rw (sym c.is_line.ensures, c.if-not-is_line.true) refl
+
+pub returns-in_err-end : goal.returns-in_err-end
+unfolding step_of
+returns-in_err-end c =
+    let r : c.from_residual.result ≡ Err c.in_err-end.field-0.0 = search rules in
+    rw (sym c.is_line.ensures, c.if-not-is_line.false, sym c.line_end.ensures, c.in_err-end.was) r
 
 -- the newline lies in the bytes, after the two that a line starts with
+in_bytes : (c : In_ok-end) → (2 ≤ c.in_ok-end.end) × (c.in_ok-end.end < length c.args.bytes.now)
+in_bytes c = line_in c.args.bytes.now (sym c.is_line.ensures ∙ c.if-not-is_line.false) (sym c.line_end.ensures ∙ c.in_ok-end.was)
+
 pub slice_bounds-judge-count : goal.slice_bounds-judge-count
-slice_bounds-judge-count c =
-    omega (arith, line_in _ (sym c.is_line.ensures ∙ c.if-is_line.true) c.line_end-line.ensures c.in-Ends.is)
+slice_bounds-judge-count c = omega (arith, in_bytes c)
 
 pub slice_bounds-judge-start : goal.slice_bounds-judge-start
-slice_bounds-judge-start c =
-    omega (arith, line_in _ (sym c.is_line.ensures ∙ c.if-is_line.true) c.line_end-line.ensures c.in-Ends.is)
+slice_bounds-judge-start c = omega (arith, in_bytes (goal.at.slice_bounds-judge-start c).In_ok-end)
 
 pub slice_bounds-judge-end : goal.slice_bounds-judge-end
-slice_bounds-judge-end c =
-    omega (arith, line_in _ (sym c.is_line.ensures ∙ c.if-is_line.true) c.line_end-line.ensures c.in-Ends.is)
+slice_bounds-judge-end c = omega (arith, in_bytes (goal.at.slice_bounds-judge-end c).In_ok-end)
 
-pub returns-in-Cut : goal.returns-in-Cut
-returns-in-Cut c =
-    step_cut _ _ _ (sym c.is_line.ensures ∙ c.if-is_line.true) c.line_end-line.ensures c.in-Cut.is
+pub returns-in_err-sides : goal.returns-in_err-sides
+unfolding step_of
+returns-in_err-sides c =
+    let r : c.from_residual-in_err-sides.result ≡ Err c.in_err-sides.field-0.0 = search rules in
+    rw (sym c.is_line.ensures, c.if-not-is_line.false, sym c.line_end.ensures, c.in_ok-end.was, sym c.judge.ensures)
+    (r ∙ judged_bad c.in_ok-end.end c.judge.result (sym c.ok_or.ensures.value ∙ c.in_err-sides.was))
 
-pub returns-in-Endless : goal.returns-in-Endless
-returns-in-Endless c =
-    step_endless _ _ _ (sym c.is_line.ensures ∙ c.if-is_line.true) c.line_end-line.ensures c.in-Endless.is
-
-pub returns-in-Bad : goal.returns-in-Bad
-returns-in-Bad c =
-    step_bad _ _ _ (sym c.is_line.ensures ∙ c.if-is_line.true) c.line_end-line.ensures c.in-Ends.is
-    c.judge-judged.ensures c.in-Bad.is
-
-pub returns-in-Good : goal.returns-in-Good
-returns-in-Good c =
-    step_good _ _ _ (sym c.is_line.ensures ∙ c.if-is_line.true) c.line_end-line.ensures c.in-Ends.is
-    c.judge-judged.ensures c.in-Good.is
-
-pub returns-else-is_line : goal.returns-else-is_line
-returns-else-is_line c = step_over _ _ _ (sym c.is_line.ensures ∙ c.if-is_line.false)
+pub returns : goal.returns
+unfolding step_of
+returns c =
+    rw (sym c.is_line.ensures, c.if-not-is_line.false, sym c.line_end.ensures, c.in_ok-end.was, sym c.judge.ensures)
+    (judged_good c.in_ok-end.end c.judge.result (sym c.ok_or.ensures.value ∙ c.in_ok-sides.was))

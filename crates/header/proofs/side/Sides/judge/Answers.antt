@@ -1,35 +1,30 @@
 -- `header::side::Sides::judge` meets its contract.
-use Rattle.header.proofs.Keywords.{keyword_in, keyword_taken}
-use Rattle.header.proofs.Lines.{judged_width, judged_height, judged_other}
-use native.Mathlib.Omega.{arith}
+use Rattle.std.proofs.Common.{◌≡◌, refl, sym, arith}
+use Rattle.header.specs.Sides.{judged_by, judged_of}
+use Rattle.header.proofs.Keywords.{keyword_in}
+use Rattle.header.proofs.Sides.{judged}
 use Rattle.header.proofs.side.Sides.judge.Goals as goal
+use Rattle.header.proofs.side.Sides.judge.Goals.{After-side_of}
 
--- the keyword lies in the text
-pub slice_bounds-side_of-end : goal.slice_bounds-side_of-end
-slice_bounds-side_of-end c = keyword_taken c.args.text.now c.keyword_length-length.ensures
+pub split_at-requires : goal.split_at-requires
+split_at-requires c = omega (arith, keyword_in c.args.text.now, c.keyword_length.ensures)
 
-pub slice_bounds-value_of-count : goal.slice_bounds-value_of-count
-slice_bounds-value_of-count c = omega (arith, keyword_in c.args.text.now, c.keyword_length-length.ensures)
+by_side : (c : After-side_of)
+    → judged_of c.args.limit c.args.text.now c.args.self ≡ judged_by c.side_of.result c.args.limit c.split_at.result.1.now c.args.self
+by_side c =
+    judged c.args.limit c.args.text.now c.args.self c.keyword_length.ensures c.split_at.ensures.front c.split_at.ensures.back c.side_of.ensures
 
-pub slice_bounds-value_of-start : goal.slice_bounds-value_of-start
-slice_bounds-value_of-start c = omega (arith, keyword_in c.args.text.now, c.keyword_length-length.ensures)
+pub returns-in_default : goal.returns-in_default
+returns-in_default c = rw (by_side (goal.at.returns-in_default c).After-side_of, c.in_default.is) refl
 
-pub slice_bounds-value_of-count-in-Height : goal.slice_bounds-value_of-count-in-Height
-slice_bounds-value_of-count-in-Height c = omega (arith, keyword_in c.args.text.now, c.keyword_length-length.ensures)
+pub returns-in_err-n : goal.returns-in_err-n
+returns-in_err-n c =
+    rw (by_side (goal.at.returns-in_err-n c).After-side_of, c.in-Some.is, sym c.value_of.ensures, c.in_err-n.was) c.from_residual.ensures
 
-pub slice_bounds-value_of-start-in-Height : goal.slice_bounds-value_of-start-in-Height
-slice_bounds-value_of-start-in-Height c = omega (arith, keyword_in c.args.text.now, c.keyword_length-length.ensures)
+pub returns-then-may_be : goal.returns-then-may_be
+returns-then-may_be c =
+    rw (by_side (goal.at.returns-then-may_be c).After-side_of, c.in-Some.is, sym c.value_of.ensures, c.in_ok-n.was, sym c.said.ensures, sym c.may_be.ensures, c.if-may_be.true, c.with_side.ensures) refl
 
-pub returns-in-Width : goal.returns-in-Width
-returns-in-Width c =
-    judged_width _ _ _ c.keyword_length-length.ensures c.side_of-side.ensures c.value_of.ensures
-    c.in-Width.is c.with_width.ensures
-
-pub returns-in-Height : goal.returns-in-Height
-returns-in-Height c =
-    judged_height _ _ _ c.keyword_length-length.ensures c.side_of-side.ensures c.value_of-in-Height.ensures
-    c.in-Height.is c.with_height.ensures
-
-pub returns-in-Other : goal.returns-in-Other
-returns-in-Other c =
-    judged_other _ _ _ c.keyword_length-length.ensures c.side_of-side.ensures c.in-Other.is
+pub returns-else-may_be : goal.returns-else-may_be
+returns-else-may_be c =
+    rw (by_side (goal.at.returns-else-may_be c).After-side_of, c.in-Some.is, sym c.value_of.ensures, c.in_ok-n.was, sym c.said.ensures, sym c.may_be.ensures, c.if-may_be.false) refl

@@ -103,6 +103,15 @@ divisor_131 : of_int binary32 (pos 131) ≡ fin false 131 (pos 0)
 unfolding of_int
 divisor_131 = refl
 
+-- the code's divisors
+pub divisor_bits : of_bits binary32 1182793728 ≡ of_int binary32 (pos 16384)
+unfolding of_bits of_int
+divisor_bits = refl
+
+pub divisor_bits_131 : of_bits binary32 1124270080 ≡ of_int binary32 (pos 131)
+unfolding of_bits of_int
+divisor_bits_131 = refl
+
 pub acceleration_exact : (c : ℕ) → c < 65536 → Times (acceleration_of c) 16384 (signed_of c)
 unfolding acceleration_of
 acceleration_exact c h =

@@ -2,4 +2,3 @@
 pub mod Floats
 pub mod Kept
 pub mod OneValue
-pub mod Shown

@@ -1,5 +1,5 @@
 -- The event that a row stands for. 01, "Rows" and "Forms we want to see".
-use Rattle.std.specs.Prelude.{ℕ, cond, List, [], ◌∷◌, length, replicate, eqb, Float}
+use Rattle.std.specs.Prelude.{ℕ, cond, List, [], ◌∷◌, length, replicate, eqb, Result, Ok, Err, Float}
 use Rattle.std.specs.Float.{binary32}
 use Rattle.std.specs.Float.Ieee.{of_bits}
 use Rattle.rows.specs.declared.fault.Fault.{Fault}
@@ -12,10 +12,12 @@ use Rattle.rows.specs.Row.{time_of, row_from}
 use Rattle.rows.specs.Rules.{kind_of, good_row}
 use Rattle.events.specs.declared.event.Event.{Event}
 use Rattle.events.specs.declared.event.Event.TheVariants.{Pixel, Trigger, ImuCounts, ImuSingles, Special}
-use Rattle.events.specs.declared.event.Conversion.{Conversion}
-use Rattle.events.specs.declared.event.Conversion.TheVariants.{Turned, Refused}
 use Rattle.events.specs.declared.event.EventNumbers.{EventNumbers}
 use Rattle.events.specs.Readings.{acceleration_of, rotation_of, single_of}
+
+-- a row's seven data numbers
+abbrev pub values_of : Row → List ℕ
+values_of r = r.a ∷ r.b ∷ r.c ∷ r.d ∷ r.e ∷ r.f ∷ r.g ∷ []
 
 -- kind 3: accelerations and rotations of the six counts
 unfoldable pub counts_event : Row → Event
@@ -26,20 +28,20 @@ counts_event r =
 unfoldable pub singles_event : Row → Event
 singles_event r =
     ImuSingles (time_of r) (single_of r.a) (single_of r.b) (single_of r.c) (single_of r.d) (single_of r.e) (single_of r.f) (single_of r.g)
-    (record { a = r.a; b = r.b; c = r.c; d = r.d; e = r.e; f = r.f; g = r.g })
+    (values_of r)
 
 -- a good row's event is one of its own kind
-unfoldable pub event_as : Kind → Row → Conversion
-event_as kind.Pixel r = Turned (Pixel (time_of r) r.a r.b r.c r.d)
-event_as kind.Trigger r = Turned (Trigger (time_of r) r.a r.b)
-event_as kind.ImuCounts r = Turned (counts_event r)
-event_as kind.ImuSingles r = Turned (singles_event r)
-event_as kind.Special r = Turned (Special (time_of r) r.a r.b)
-event_as kind.Other r = Refused BadRow
+unfoldable pub event_as : Kind → Row → Result Event Fault
+event_as kind.Pixel r = Ok (Pixel (time_of r) r.a r.b r.c r.d)
+event_as kind.Trigger r = Ok (Trigger (time_of r) r.a r.b)
+event_as kind.ImuCounts r = Ok (counts_event r)
+event_as kind.ImuSingles r = Ok (singles_event r)
+event_as kind.Special r = Ok (Special (time_of r) r.a r.b)
+event_as kind.Other r = Err BadRow
 
 -- the event of a good row; any other row is refused 12
-unfoldable pub event_of : Row → Conversion
-event_of r = cond (good_row r) (event_as (kind_of r.kind) r) (Refused BadRow)
+unfoldable pub event_of : Row → Result Event Fault
+event_of r = cond (good_row r) (event_as (kind_of r.kind) r) (Err BadRow)
 
 -- every event carries its row's time
 abbrev pub event_time : Event → ℕ
@@ -65,10 +67,10 @@ readings_of (Special t c n) = replicate 7 plus_zero
 abbrev pub refused_numbers : Fault → EventNumbers
 refused_numbers f = record { refusal = number_of f; kind = 0; time = 0; values = replicate 7 0; readings = replicate 7 plus_zero }
 
-abbrev pub shown_as : Conversion → Row → EventNumbers
-shown_as (Turned e) r =
-    record { refusal = 0; kind = r.kind; time = time_of r; values = r.a ∷ r.b ∷ r.c ∷ r.d ∷ r.e ∷ r.f ∷ r.g ∷ []; readings = readings_of e }
-shown_as (Refused f) r = refused_numbers f
+abbrev pub shown_as : Result Event Fault → Row → EventNumbers
+shown_as (Ok e) r =
+    record { refusal = 0; kind = r.kind; time = time_of r; values = values_of r; readings = readings_of e }
+shown_as (Err f) r = refused_numbers f
 
 unfoldable pub row_numbers : Row → EventNumbers
 row_numbers r = shown_as (event_of r) r

@@ -1,5 +1,5 @@
 -- The laws of this crate, each proved in proofs/Kept.antt under the name in lower case.
-use Rattle.std.specs.Prelude.{◌≡◌, ℕ, ◌%◌, ◌≤◌, ◌<◌, true, false, T, pos, nat_abs, Float}
+use Rattle.std.specs.Prelude.{◌≡◌, ℕ, ◌%◌, ◌≤◌, ◌<◌, true, false, T, Ok, Err, pos, nat_abs, Float}
 use Rattle.std.specs.Float.{fin, binary32}
 use Rattle.std.specs.Float.Ieee.{fits, to_bits, round}
 use Rattle.rows.specs.declared.fault.Fault.TheVariants.{BadRow}
@@ -7,17 +7,16 @@ use Rattle.rows.specs.declared.row.Row.{Row}
 use Rattle.rows.specs.Row.{time_of}
 use Rattle.rows.specs.Rules.{good_row}
 use Rattle.events.specs.declared.event.Event.{Event}
-use Rattle.events.specs.declared.event.Conversion.TheVariants.{Turned, Refused}
 use Rattle.events.specs.Readings.{signed_of, acceleration_of, rotation_of, single_of, is_negative, Times}
 use Rattle.events.specs.Event.{event_of, event_time}
 
 -- 01, "Rows": a row is refused 12 exactly where it is not good
 abbrev pub EventRefused : Type 0
-EventRefused = (r : Row) → ((good_row r ≡ false) → event_of r ≡ Refused BadRow) × ((event_of r ≡ Refused BadRow) → good_row r ≡ false)
+EventRefused = (r : Row) → ((good_row r ≡ false) → event_of r ≡ Err BadRow) × ((event_of r ≡ Err BadRow) → good_row r ≡ false)
 
 -- an event carries the time of its row
 abbrev pub EventTimed : Type 0
-EventTimed = (r : Row) (e : Event) → event_of r ≡ Turned e → event_time e ≡ time_of r
+EventTimed = (r : Row) (e : Event) → event_of r ≡ Ok e → event_time e ≡ time_of r
 
 -- 01, "Rows": an acceleration times 16,384 is exactly the signed count
 abbrev pub AccelerationExact : Type 0

@@ -1,25 +1,14 @@
 // Typed events: a row of a kind as an event of that kind, an IMU's readings as singles.
 ghost use Rattle.std.specs.Prelude.{◌≡◌, true};
 ghost use Rattle.rows.specs.Rules.{good_as};
-ghost use Rattle.events.specs.Event.{counts_event, singles_event, event_as, event_of, readings_of, refused_numbers, row_numbers, event_numbers};
+ghost use Rattle.events.specs.Event.{values_of, counts_event, singles_event, event_as, event_of, readings_of, refused_numbers, row_numbers, event_numbers};
 
 use crate::readings::{acceleration, rotation, single};
-use rows::{Fault, Kind, Row, RowAt, get, good};
+use rows::{Fault, Kind, Row, get, good};
 
-// The bits of an IMU's seven singles as they stand in the row. A NaN's payload is kept here alone.
-#[derive(Clone, Copy)]
-pub struct Patterns {
-    pub a: u32,
-    pub b: u32,
-    pub c: u32,
-    pub d: u32,
-    pub e: u32,
-    pub f: u32,
-    pub g: u32,
-}
-
-// An event of each kind, with its time in microseconds. Accelerations are in g, rotations in degrees a second.
-#[derive(Clone, Copy)]
+// An event of each kind, with its time in microseconds. Accelerations are in g, rotations in degrees a second. The patterns are the bits of an
+// IMU's seven singles as they stand in the row: a NaN's payload is kept there alone.
+#[derive(Clone, Copy, Debug, PartialEq)]
 pub enum Event {
     Pixel {
         time: u64,
@@ -51,7 +40,7 @@ pub enum Event {
         ry: f32,
         rz: f32,
         temperature: f32,
-        patterns: Patterns,
+        patterns: [u32; 7],
     },
     Special {
         time: u64,
@@ -60,17 +49,10 @@ pub enum Event {
     },
 }
 
-// What a row is turned into: an event, or a refusal.
-#[derive(Clone, Copy)]
-pub enum Conversion {
-    Turned(Event),
-    Refused(Fault),
-}
-
 // An event as numbers, for callers in other languages: refusal 0, the row's kind, time and seven data numbers, and the
 // readings, +0 where there are none. Refused: the refusal, and zeros.
 #[repr(C)]
-#[derive(Clone, Copy)]
+#[derive(Clone, Copy, Debug, PartialEq)]
 pub struct EventNumbers {
     pub refusal: u64,
     pub kind: u64,
@@ -79,6 +61,14 @@ pub struct EventNumbers {
     pub readings: [f32; 7],
 }
 
+// The seven data numbers of a row.
+fn values(row: Row) -> [u32; 7]
+    ensures { result ≡ values_of row }
+{
+    [row.a, row.b, row.c, row.d, row.e, row.f, row.g]
+}
+
+#[tactic(auto, using(rows::proofs::GoodRows::counts_below), unfolding(crate::specs::Event::counts_event))]
 fn counts_event(row: Row) -> Event
     requires { good_as Kind.ImuCounts row ≡ true }
     ensures { result ≡ counts_event row }
@@ -94,6 +84,7 @@ fn counts_event(row: Row) -> Event
     }
 }
 
+#[tactic(auto, unfolding(crate::specs::Event::singles_event))]
 fn singles_event(row: Row) -> Event
     ensures { result ≡ singles_event row }
 {
@@ -106,55 +97,53 @@ fn singles_event(row: Row) -> Event
         ry: single(row.e),
         rz: single(row.f),
         temperature: single(row.g),
-        patterns: Patterns {
-            a: row.a,
-            b: row.b,
-            c: row.c,
-            d: row.d,
-            e: row.e,
-            f: row.f,
-            g: row.g,
-        },
+        patterns: values(row),
     }
 }
 
 // The event of a row that keeps the rules of a kind.
-fn event_as(kind: Kind, row: Row) -> Conversion
+#[tactic(auto, unfolding(crate::specs::Event::event_as))]
+fn event_as(kind: Kind, row: Row) -> Result<Event, Fault>
     requires { good_as kind row ≡ true }
     ensures { result ≡ event_as kind row }
 {
     match kind {
-        Kind::Pixel => Conversion::Turned(Event::Pixel {
+        Kind::Pixel => Ok(Event::Pixel {
             time: row.time(),
             x: row.a,
             y: row.b,
             polarity: row.c,
             camera: row.d,
         }),
-        Kind::Trigger => Conversion::Turned(Event::Trigger {
+        Kind::Trigger => Ok(Event::Trigger {
             time: row.time(),
             channel: row.a,
             edge: row.b,
         }),
-        Kind::ImuCounts => Conversion::Turned(counts_event(row)),
-        Kind::ImuSingles => Conversion::Turned(singles_event(row)),
-        Kind::Special => Conversion::Turned(Event::Special {
+        Kind::ImuCounts => Ok(counts_event(row)),
+        Kind::ImuSingles => Ok(singles_event(row)),
+        Kind::Special => Ok(Event::Special {
             time: row.time(),
             code: row.a,
             content: row.b,
         }),
-        Kind::Other => Conversion::Refused(Fault::BadRow),
+        Kind::Other => Err(Fault::BadRow),
     }
 }
 
 // The event of a row; a row that is not good is refused 12.
-pub fn event_of(row: Row) -> Conversion
-    ensures { result ≡ event_of row }
-{
-    if good(row) {
-        return event_as(Kind::of(row.kind), row);
+impl TryFrom<Row> for Event {
+    type Error = Fault;
+
+    ghost try_from_gives = { λ row event. event ≡ event_of row };
+
+    #[tactic(auto, using(rows::proofs::GoodRows::good_by_kind), unfolding(crate::specs::Event::event_of))]
+    fn try_from(row: Row) -> Result<Event, Fault> {
+        if good(row) {
+            return event_as(Kind::from(row.kind), row);
+        }
+        Err(Fault::BadRow)
     }
-    Conversion::Refused(Fault::BadRow)
 }
 
 impl Event {
@@ -163,29 +152,16 @@ impl Event {
         ensures { result ≡ readings_of self }
     {
         match self {
-            Event::Pixel {
-                time: _,
-                x: _,
-                y: _,
-                polarity: _,
-                camera: _,
-            } => [0.0; 7],
-            Event::Trigger {
-                time: _,
-                channel: _,
-                edge: _,
-            } => [0.0; 7],
             Event::ImuCounts {
-                time: _,
                 ax,
                 ay,
                 az,
                 rx,
                 ry,
                 rz,
+                ..
             } => [ax, ay, az, rx, ry, rz, 0.0],
             Event::ImuSingles {
-                time: _,
                 ax,
                 ay,
                 az,
@@ -193,56 +169,54 @@ impl Event {
                 ry,
                 rz,
                 temperature,
-                patterns: _,
+                ..
             } => [ax, ay, az, rx, ry, rz, temperature],
-            Event::Special {
-                time: _,
-                code: _,
-                content: _,
-            } => [0.0; 7],
+            Event::Pixel { .. } | Event::Trigger { .. } | Event::Special { .. } => [0.0; 7],
         }
     }
 }
 
-fn refused_numbers(fault: Fault) -> EventNumbers
-    ensures { result ≡ refused_numbers fault }
-{
-    EventNumbers {
-        refusal: fault.number(),
-        kind: 0,
-        time: 0,
-        values: [0; 7],
-        readings: [0.0; 7],
+// The numbers of a refusal.
+impl From<Fault> for EventNumbers {
+    ghost from_gives = { λ fault numbers. numbers ≡ refused_numbers fault };
+
+    fn from(fault: Fault) -> EventNumbers {
+        EventNumbers {
+            refusal: u64::from(fault),
+            kind: 0,
+            time: 0,
+            values: [0; 7],
+            readings: [0.0; 7],
+        }
     }
 }
 
-fn row_numbers(row: Row) -> EventNumbers
-    ensures { result ≡ row_numbers row }
-{
-    let conversion = event_of(row);
-    match conversion {
-        Conversion::Turned(event) => EventNumbers {
-            refusal: 0,
-            kind: row.kind as u64,
-            time: row.time(),
-            values: [row.a, row.b, row.c, row.d, row.e, row.f, row.g],
-            readings: event.readings(),
-        },
-        Conversion::Refused(fault) => refused_numbers(fault),
+// The numbers of a row's event, or of its refusal.
+impl From<Row> for EventNumbers {
+    ghost from_gives = { λ row numbers. numbers ≡ row_numbers row };
+
+    #[tactic(auto, unfolding(crate::specs::Event::row_numbers))]
+    fn from(row: Row) -> EventNumbers {
+        match Event::try_from(row) {
+            Ok(event) => EventNumbers {
+                refusal: 0,
+                kind: u64::from(row.kind),
+                time: row.time(),
+                values: values(row),
+                readings: event.readings(),
+            },
+            Err(fault) => EventNumbers::from(fault),
+        }
     }
 }
 
 // The event of a row of ten numbers, as numbers; of any other length it is refused 13.
-#[tactic(auto, using(crate::proofs::Shown::numbers_bad, crate::proofs::Shown::numbers_row))]
+#[tactic(auto, unfolding(crate::specs::Event::event_numbers))]
 pub fn event_numbers(numbers: &[u32]) -> EventNumbers
     ensures { result ≡ event_numbers numbers.now }
 {
-    if numbers.len() != 10 {
-        return refused_numbers(Fault::BadList);
-    }
-    let first = get(numbers, 0);
-    match first {
-        RowAt::Found(row) => row_numbers(row),
-        RowAt::Nothing => refused_numbers(Fault::BadList),
+    match get(numbers, 0) {
+        Some(row) if numbers.len() == 10 => EventNumbers::from(row),
+        _ => EventNumbers::from(Fault::BadList),
     }
 }

@@ -1,6 +1,6 @@
 // Typed events: what a row of each kind stands for.
 //
-//     event_of(row)                       the event of a good row, an IMU's readings as f32; any other row is refused 12
+//     Event::try_from(row)                the event of a good row, an IMU's readings as f32; any other row is refused 12
 //     event_numbers(numbers)              the same of ten numbers, as the C interface hands it over; other than ten are refused 13
 //     acceleration, rotation, single      the reading of a count, and of a pattern of bits
 //
@@ -11,5 +11,5 @@
 mod event;
 mod readings;
 
-pub use event::{Conversion, Event, EventNumbers, Patterns, event_numbers, event_of};
+pub use event::{Event, EventNumbers, event_numbers};
 pub use readings::{acceleration, rotation, single};

@@ -5,6 +5,7 @@ ghost use Rattle.std.specs.Float.Ieee.{of_int};
 ghost use Rattle.events.specs.Readings.{signed_of, acceleration_of, rotation_of, single_of};
 
 // The signed number that a count means.
+#[tactic(auto, using(crate::proofs::Floats::signed_negative))]
 fn signed(count: u16) -> f32
     ensures { result ≡ of_int binary32 (signed_of count) }
 {
@@ -15,6 +16,7 @@ fn signed(count: u16) -> f32
 }
 
 // The acceleration of a count in g: exact, since the divisor is a power of two.
+#[tactic(auto, using(crate::proofs::Floats::divisor_bits), unfolding(crate::specs::Readings::acceleration_of))]
 pub fn acceleration(count: u16) -> f32
     ensures { result ≡ acceleration_of count }
 {
@@ -22,6 +24,7 @@ pub fn acceleration(count: u16) -> f32
 }
 
 // The rotation of a count in degrees a second, rounded once.
+#[tactic(auto, using(crate::proofs::Floats::divisor_bits_131), unfolding(crate::specs::Readings::rotation_of))]
 pub fn rotation(count: u16) -> f32
     ensures { result ≡ rotation_of count }
 {
@@ -34,7 +37,7 @@ pub fn single(bits: u32) -> f32
     ensures { result ≡ single_of bits }
 {
     if 2139095040 < bits % 2147483648 {
-        return 0.0 / 0.0;
+        return f32::NAN;
     }
     f32::from_bits(bits)
 }

@@ -6,10 +6,10 @@ ghost use Rattle.words.specs.Written.{GaveAs};
 ghost use Rattle.dat.specs.Words.{fresh, with_last, event_of};
 
 use rows::{Fault, Row};
-use words::{Gave, Picture};
+use words::{Picture, Stop};
 
 // What a reader knows between events: the last one's time, and 0 before the first.
-#[derive(Clone, Copy)]
+#[derive(Clone, Copy, Debug, PartialEq, Eq)]
 pub struct State {
     pub last: u32,
 }
@@ -31,13 +31,19 @@ impl State {
     }
 
     // What an event gives: one pixel, if there is room, or its refusal.
-    pub(crate) fn give(self, picture: Picture, w: u64, rows: &mut [u32], n: usize) -> Gave
+    pub(crate) fn give(
+        self,
+        picture: Picture,
+        w: u64,
+        rows: &mut [u32],
+        n: usize,
+    ) -> Result<usize, Stop>
         requires { n ≤ room_of rows.old }
         ensures { GaveAs (event_of picture self w) n rows.old rows.new result }
     {
         let time = w % 4294967296;
         if time < self.last as u64 {
-            return Gave::Refused(Fault::BadTime);
+            return Err(Stop::Refused(Fault::BadTime));
         }
         let x = (w / 4294967296 % 16384) as u32;
         let y = (w / 70368744177664 % 16384) as u32;
@@ -47,6 +53,6 @@ impl State {
                 return words::give(rows, n, Row::pixel(time, x, y, polarity));
             }
         }
-        Gave::Refused(Fault::Outside)
+        Err(Stop::Refused(Fault::Outside))
     }
 }

@@ -4,5 +4,4 @@ use lib.Dec.{lit<}
 use Rattle.dat.proofs.reader.read.Goals as goal
 
 pub read_data-requires : goal.read_data-requires
-read_data-requires c =
-    data_within 16384 (lit< tt) c.args.bytes.now c.read-header.ensures c.in-Data.is
+read_data-requires c = data_within 16384 (lit< tt) c.args.bytes.now c.read.ensures c.in_ok-header.was

@@ -1,44 +1,50 @@
 -- `dat::reader::read_events` meets its contract.
-use Rattle.dat.proofs.Steps.{in_parts}
+use Rattle.dat.proofs.Steps.{in_parts, only_cut}
 use Rattle.words.proofs.Between.{found}
 use Rattle.words.proofs.Between.{ends_whole, ends_part, word_in, goes_on_gave, ends_gave_full, ends_gave}
 use Rattle.words.specs.Words.{next_at}
-use Rattle.words.specs.declared.Next.TheVariants.{Word}
+use Rattle.std.proofs.Common.{Some, Ok, Err}
 use lib.Dec.{lit<}
 use lib.ListN.{length}
 use native.Mathlib.Omega.{arith}
 use Prim.Native.Nat.{◌+◌, ◌≤◌}
-use mathlib.Core.Path.{◌≡◌, refl}
+use mathlib.Core.Path.{◌≡◌, refl, ap, ◌∙◌, subst}
+use Rattle.rows.specs.declared.fault.Fault.{Fault}
+use Rattle.rows.specs.declared.fault.Fault.TheVariants.{Cut}
 use Rattle.dat.proofs.reader.read_events.Goals as goal
-use Rattle.dat.proofs.reader.read_events.Goals.{After-give-gave}
+use Rattle.dat.proofs.reader.read_events.Goals.{After-give}
 
-word : (d : After-give-gave) → Word d.in-Word.w ≡ next_at 8 d.args.bytes.now d.loop-w.at
-word d = found d.loop-w.invariant d.first64-next.ensures d.in-Word.is
+word : (d : After-give) → Some (Ok d.in-Some-Ok.w) ≡ next_at 8 d.args.bytes.now d.loop-fault.at
+word d = found d.loop-fault.invariant d.first.ensures (d.in-Some-Ok.is ∙ ap Some d.in-Some-Ok.field-0-is)
 
-word_fits : (d : After-give-gave) → d.loop-w.at + 8 ≤ length d.args.bytes.now
-word_fits d = word_in d.loop-w.invariant (lit< tt) (word d)
+word_fits : (d : After-give) → d.loop-fault.at + 8 ≤ length d.args.bytes.now
+word_fits d = word_in d.loop-fault.invariant (lit< tt) (word d)
 
-pub returns-in-End : goal.returns-in-End
-returns-in-End c =
-    ends_whole c.loop-w.invariant (found c.loop-w.invariant c.first64-next.ensures c.in-End.is) refl
+pub returns-in-None : goal.returns-in-None
+returns-in-None c = ends_whole c.loop-fault.invariant (found c.loop-fault.invariant c.first.ensures c.in-None.is) refl
 
-pub returns-in-Part : goal.returns-in-Part
-returns-in-Part c =
-    ends_part c.loop-w.invariant (found c.loop-w.invariant c.first64-next.ensures c.in-Part.is)
+pub returns-in-Some-Err : goal.returns-in-Some-Err
+returns-in-Some-Err c =
+    let w : Some (Err c.in-Some-Err.fault) ≡ next_at 8 c.args.bytes.now c.loop-fault.at
+    = found c.loop-fault.invariant c.first.ensures (c.in-Some-Err.is ∙ ap Some c.in-Some-Err.field-0-is) in
+    let e : c.in-Some-Err.fault ≡ Cut = only_cut c.args.bytes.now c.loop-fault.at w in
+    rw e (ends_part c.loop-fault.invariant (subst (λ (f : Fault). Some (Err f) ≡ next_at 8 c.args.bytes.now c.loop-fault.at) e w))
 
-pub returns-in-Full : goal.returns-in-Full
-returns-in-Full c =
-    ends_gave_full c.loop-w.invariant (lit< tt) (word (goal.at.returns-in-Full c).After-give-gave) _ (in_parts _ _ _ refl) c.give-gave.ensures
-    c.in-Full.is
+pub returns-in-Err-Full : goal.returns-in-Err-Full
+returns-in-Err-Full c =
+    ends_gave_full c.loop-fault.invariant (lit< tt) (word (goal.at.returns-in-Err-Full c).After-give) _ (in_parts _ _ _ refl) c.give.ensures
+    (c.in-Err-Full.is ∙ ap Err c.in-Err-Full.field-0-is)
 
-pub returns-in-Refused : goal.returns-in-Refused
-returns-in-Refused c =
-    ends_gave c.loop-w.invariant (lit< tt) (word (goal.at.returns-in-Refused c).After-give-gave) _ (in_parts _ _ _ refl) c.give-gave.ensures c.in-Refused.is
+pub returns-in-Err-Refused : goal.returns-in-Err-Refused
+returns-in-Err-Refused c =
+    rw c.in-Err-Refused.fault-is
+    (ends_gave c.loop-fault.invariant (lit< tt) (word (goal.at.returns-in-Err-Refused c).After-give) _ (in_parts _ _ _ refl) c.give.ensures
+    (c.in-Err-Refused.is ∙ ap Err c.in-Err-Refused.field-0-is))
 
-pub loop-w-smaller : goal.loop-w-smaller
-loop-w-smaller c = omega (arith, word_fits (goal.at.loop-w-smaller c).After-give-gave)
+pub loop-fault-smaller : goal.loop-fault-smaller
+loop-fault-smaller c = omega (arith, word_fits (goal.at.loop-fault-smaller c).After-give)
 
-pub loop-w-preserved : goal.loop-w-preserved
-loop-w-preserved c =
-    goes_on_gave c.loop-w.invariant (lit< tt) (word (goal.at.loop-w-preserved c).After-give-gave) _ (in_parts _ _ _ c.event-state.ensures) c.give-gave.ensures
-    c.in-Rows.is
+pub loop-fault-preserved : goal.loop-fault-preserved
+loop-fault-preserved c =
+    goes_on_gave c.loop-fault.invariant (lit< tt) (word (goal.at.loop-fault-preserved c).After-give) _ (in_parts _ _ _ c.event-state.ensures) c.give.ensures
+    c.in-Ok.is

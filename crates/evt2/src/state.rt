@@ -1,12 +1,12 @@
 // What a reader knows between words, and what each kind of word does with it.
 ghost use Rattle.std.specs.Prelude.{◌≡◌, ◌%◌};
 ghost use Rattle.evt2.specs.State.{fresh, pending, origin, with_high, further};
-ghost use Rattle.evt2.specs.Words.{kind_in, time_at, goes_back, imu_begun};
+ghost use Rattle.evt2.specs.Words.{kind_in, time_at, goes_back, imu_begun, next_as};
 
 use crate::kind::Kind;
 
 // What a reader knows between words. The order leaves no gaps between the fields: gaps would be copied with the state.
-#[derive(Clone, Copy)]
+#[derive(Clone, Copy, Debug, PartialEq, Eq)]
 pub struct State {
     // Where the IMU reading in hand begins, and its words so far: the last is e, the one before it d.
     pub place: usize,
@@ -49,6 +49,7 @@ impl State {
     }
 
     // Where the group in hand begins, and else the word at a place.
+    #[tactic(auto, unfolding(crate::specs::State::origin))]
     pub(crate) fn origin(self, at: usize) -> usize
         ensures { result ≡ origin self at }
     {
@@ -59,16 +60,18 @@ impl State {
     }
 
     // The kind of a word in this state.
+    #[tactic(auto, unfolding(crate::specs::Words::kind_in))]
     pub(crate) fn kind(self, w: u64) -> Kind
         ensures { result ≡ kind_in self w }
     {
         if self.is_pending() {
             return Kind::Inside;
         }
-        Kind::of(w)
+        Kind::from(w)
     }
 
     // The time of a word.
+    #[tactic(auto, unfolding(crate::specs::Words::time_at))]
     pub(crate) fn time_at(self, w: u64) -> u64
         ensures { result ≡ time_at self w }
     {
@@ -76,6 +79,7 @@ impl State {
     }
 
     // Whether EVT_TIME_HIGH is lower than before.
+    #[tactic(auto, unfolding(crate::specs::Words::goes_back))]
     pub(crate) fn goes_back(self, w: u64) -> bool
         ensures { result ≡ goes_back self w }
     {
@@ -85,8 +89,20 @@ impl State {
         false
     }
 
+    // The state after a word of a kind at a place; kinds that are not named set nothing.
+    pub(crate) fn after(self, kind: Kind, place: usize, w: u64) -> State
+        ensures { result ≡ next_as kind self place w }
+    {
+        match kind {
+            Kind::TimeHigh => self.time_high(w),
+            Kind::ImuEvt => self.imu_evt(place, w),
+            Kind::Inside => self.further(w),
+            _ => self,
+        }
+    }
+
     // EVT_TIME_HIGH: the high part.
-    pub(crate) fn time_high(mut self, w: u64) -> State
+    fn time_high(mut self, w: u64) -> State
         ensures { result ≡ with_high self (w % 268435456) }
     {
         self.high = (w % 268435456) as u32;
@@ -95,7 +111,8 @@ impl State {
     }
 
     // IMU_EVT: an IMU reading begins, if the high part is known.
-    pub(crate) fn imu_evt(mut self, place: usize, w: u64) -> State
+    #[tactic(auto, unfolding(crate::specs::Words::imu_begun))]
+    fn imu_evt(mut self, place: usize, w: u64) -> State
         ensures { result ≡ imu_begun self place w }
     {
         if self.known {
@@ -107,7 +124,7 @@ impl State {
     }
 
     // One word more of the group in hand.
-    pub(crate) fn further(mut self, w: u64) -> State
+    fn further(mut self, w: u64) -> State
         ensures { result ≡ further self w }
     {
         self.a = self.b;

@@ -1,11 +1,11 @@
 -- `evt2::writer::put_rows` meets its contract.
 use Rattle.evt2.proofs.RowSteps.{Puts}
 use Rattle.rows.specs.Row.{room_of}
-use Prim.Native.Nat.{◌/◌, ◌-◌}
+use Prim.Native.Nat.{◌-◌}
 use Rattle.evt2.proofs.writer.put_rows.Given as goal
 
 abbrev pub invariant-loop-row : goal.invariant-loop-row
-invariant-loop-row l = Puts l.rows l.initial.out l.at l.told (l.last / 64) l.done l.out
+invariant-loop-row l = Puts l.rows l.initial.out l.at l.told l.done l.out
 
 abbrev pub decreases-loop-row : goal.decreases-loop-row
 decreases-loop-row l = room_of l.rows - l.done

@@ -131,16 +131,16 @@ pub record Adding (l : List ℕ) (from to i : ℕ) (b : Block) : Type 0 where
   pub few : Few (i - from) b
   pub same : add_all b (rows_from l i (to - i)) ≡ block_of (rows_from l from (to - from))
 
-pub adding_start : (l : List ℕ) (from to t : ℕ) → from < to → t ≡ time_of (row_from l (from * 10)) → Adding l from to from (empty_at t)
-adding_start l from to t h e =
+pub adding_start : (l : List ℕ) (from to t : ℕ) → from < to → t ≡ time_of (row_from l (from * 10)) → {b : Block} → b ≡ empty_at t → Adding l from to from b
+adding_start l from to t h e {b} f =
     let some : suc (to - suc from) ≡ to - from = omega arith in
     let first : t ≡ first_time (rows_from l from (to - from)) =
     e ∙ ap first_time (sym (rows_next l from (to - suc from))) ∙ ap (λ (n : ℕ). first_time (rows_from l from n)) some in
     record {
       low = omega arith;
       high = omega arith;
-      few = record { pixels = omega arith; triggers = omega arith; counts = omega arith; singles = omega arith; packets = omega arith; specials = omega arith };
-      same = ap (λ (x : ℕ). add_all (empty_at x) (rows_from l from (to - from))) first ∙ of_all (rows_from l from (to - from));
+      few = subst (Few (from - from)) (sym f) (record { pixels = omega arith; triggers = omega arith; counts = omega arith; singles = omega arith; packets = omega arith; specials = omega arith });
+      same = ap (λ (x : Block). add_all x (rows_from l from (to - from))) f ∙ ap (λ (x : ℕ). add_all (empty_at x) (rows_from l from (to - from))) first ∙ of_all (rows_from l from (to - from));
     }
 
 module _ {l : List ℕ} {from to i : ℕ} {b : Block} (a : Adding l from to i b) where
@@ -159,9 +159,6 @@ module _ {l : List ℕ} {from to i : ℕ} {b : Block} (a : Adding l from to i b)
             ∙ ap (λ (n : ℕ). add_all b (rows_from l i n)) some
             ∙ a.same;
       }
-
-  pub adding_room : i < to → to ≤ from + 256 → Few 255 b
-  adding_room h g = few_enough (i - from) 255 b (omega arith) a.few
 
   pub adding_done : to ≤ i → b ≡ block_of (rows_from l from (to - from))
   adding_done h =

@@ -17,10 +17,6 @@ module _ {A : Type 0} (f : A → List ℕ) where
   each_append [] ys = refl
   each_append (x ∷ xs) ys = ap (λ (l : List ℕ). f x ++ l) (each_append xs ys) ∙ sym (append_assoc (f x) (flat_map f xs) (flat_map f ys))
 
-  pub each_one : (x : A) → flat_map f (x ∷ []) ≡ f x ++ []
-  unfolding flat_map
-  each_one x = refl
-
   pub each_next : (x : A) (xs : List A) → flat_map f (x ∷ xs) ≡ f x ++ flat_map f xs
   unfolding flat_map
   each_next x xs = refl

@@ -1,5 +1,5 @@
 -- The fields of bytes: none, a part of one, or one and then the fields of what follows it.
-use mathlib.Core.Path.{◌≡◌, refl, ap}
+use mathlib.Core.Path.{◌≡◌, refl, sym, ◌∙◌, ap, ap₂, subst}
 use Prim.Native.Nat.{ℕ, zero, suc, ◌≤◌, ◌<◌}
 use native.Mathlib.Omega.{arith}
 use mathlib.Core.Bool.{cond}
@@ -7,6 +7,10 @@ use mathlib.Core.List.{List, [], ◌∷◌}
 use lib.ListN.{length, take, drop, get_or, length-drop}
 use lib.Dec.{eqb, ltb}
 use borrow.Author.Tests.{eq-eqb, ne_eqb, lt-ltb, le-ltb}
+use Rattle.std.specs.Prelude.{Option, Some, None, IfSome, Ok}
+use Rattle.std.specs.Borrow.{Bor}
+use Rattle.summary.specs.declared.reader.Field.{Field}
+use Rattle.summary.specs.Reader.{Cut, CutAs, before_fields, field_or, next_in}
 use Rattle.summary.specs.Fields.{Fields, whole, faulty, tagged, size_of, span_of, fields_by, fields_of}
 
 -- more steps than there are bytes change nothing
@@ -37,3 +41,35 @@ fields_next (b ∷ l) h =
     rw (ne_eqb (length (b ∷ l)) 0 (λ e. omega arith), le-ltb (length (b ∷ l)) (span_of (b ∷ l)) h)
     (ap (tagged b (take (size_of (b ∷ l)) (drop 3 (b ∷ l))))
     (fields_same (length l) (length (drop (span_of (b ∷ l)) (b ∷ l))) (drop (span_of (b ∷ l)) (b ∷ l)) (omega (arith, length-drop (span_of (b ∷ l)) (b ∷ l))) (omega arith)))
+
+-- a field was taken off the front, or is cut
+module _ (l : List ℕ) {found : Option (ℕ × Bor (List ℕ) × Bor (List ℕ))} (c : CutAs l found) where
+  pub cut_faulty : 0 < length l → found ≡ None → fields_of l ≡ faulty
+  cut_faulty h e = let short : length l < span_of l = subst (CutAs l) e c in fields_cut l h short
+
+  module _ {tag : ℕ} {contents rest : Bor (List ℕ)} (e : found ≡ Some (tag, contents, rest)) where
+    taken : Cut l tag contents.now rest.now
+    taken = subst (CutAs l) e c
+
+    pub cut_tagged : fields_of l ≡ tagged tag contents.now (fields_of rest.now)
+    cut_tagged =
+        fields_next l taken.long
+        ∙ ap (λ (t : ℕ). tagged t (take (size_of l) (drop 3 l)) (fields_of (drop (span_of l) l))) (sym taken.tagged)
+        ∙ ap₂ (λ (c r : List ℕ). tagged tag c (fields_of r)) (sym taken.contained) (sym taken.left)
+
+    pub cut_shorter : length rest.now < length l
+    cut_shorter = omega (arith, taken.long, ap length taken.left, length-drop (span_of l) l)
+
+-- what `next_field` found: a field, with the bytes after it, or none
+module _ {f : Fields} {o : Option (Field × Bor (List ℕ))} (e : f ≡ next_in (Ok o)) where
+  pub next_none : o ≡ None → f ≡ whole
+  next_none g = e ∙ ap (λ (o : Option (Field × Bor (List ℕ))). next_in (Ok o)) g
+
+  pub next_found : {field same : Field} {after : Bor (List ℕ)} → o ≡ Some (field, after) → field ≡ same → f ≡ before_fields same (fields_of after.now)
+  next_found {field} {same} {after} g h = e ∙ ap (λ (o : Option (Field × Bor (List ℕ))). next_in (Ok o)) g ∙ ap (λ (x : Field). before_fields x (fields_of after.now)) h
+
+pub next_shorter : {n : ℕ} {o : Option (Field × Bor (List ℕ))} {field : Field} {after : Bor (List ℕ)} → IfSome o (λ next. length next.1.now < n) → o ≡ Some (field, after) → length after.now < n
+next_shorter {n} s g = subst (λ (o : Option (Field × Bor (List ℕ))). IfSome o (λ next. length next.1.now < n)) g s
+
+pub field_is : {o p : Option Field} → o ≡ p → (rest : Fields) → field_or (Ok o) rest ≡ field_or (Ok p) rest
+field_is e rest = ap (λ (o : Option Field). field_or (Ok o) rest) e

@@ -6,11 +6,10 @@ use native.Mathlib.Omega.{arith}
 use mathlib.Core.Bool.{Bool, true, false, cond}
 use mathlib.Core.List.{List, [], ◌∷◌}
 use lib.ListN.{length}
+use Rattle.std.specs.Prelude.{Result, Ok, Err}
 use Rattle.rows.specs.declared.fault.Fault.{Fault}
 use Rattle.rows.specs.declared.fault.Fault.TheVariants.{BadList}
 use Rattle.rows.specs.declared.row.Row.{Row}
-use Rattle.rows.specs.declared.rules.Judged.{Judged}
-use Rattle.rows.specs.declared.rules.Judged.TheVariants.{Time, Refused}
 use Rattle.rows.specs.Row.{All, time_of, room_of, row_from, rows_from, rows_of}
 use Rattle.rows.specs.Rules.{accepted, refused, verdict_then, good_length}
 use Rattle.summary.specs.Verdicts.{verdict_by, verdict_on, in_any_order}
@@ -35,7 +34,7 @@ module _ (test : Row → Bool) where
   all_accepted (r ∷ rs) i last h = simp h.0 (all_accepted rs (suc i) (time_of r) h.1)
 
 -- whatever a row gets after the time of the one before
-module _ (judged : Row → ℕ → Judged) where
+module _ (judged : Row → ℕ → Result ℕ Fault) where
   -- a whole list: 13, and then row by row
   pub bad_list : (l : List ℕ) → good_length (length l) ≡ false → verdict_on judged l ≡ refused BadList 0
   unfolding verdict_on
@@ -82,8 +81,8 @@ module _ (judged : Row → ℕ → Judged) where
           let e : room_of l - i ≡ suc (room_of l - suc i) = omega arith in
           h.same ∙ ap (λ (k : ℕ). verdict_by judged (rows_from l i k) i last) e
 
-      pub judging_next : {t : ℕ} → Time t ≡ judged (row_from l (i * 10)) last → Judging l (i + 1) t
+      pub judging_next : {t : ℕ} → Ok t ≡ judged (row_from l (i * 10)) last → Judging l (i + 1) t
       judging_next {t} e = rw (add-one i) (record { same = here ∙ rw (sym e); within = f })
 
-      pub judging_refused : {fault : Fault} → Refused fault ≡ judged (row_from l (i * 10)) last → verdict_by judged (rows_of l) 0 0 ≡ refused fault i
+      pub judging_refused : {fault : Fault} → Err fault ≡ judged (row_from l (i * 10)) last → verdict_by judged (rows_of l) 0 0 ≡ refused fault i
       judging_refused e = here ∙ rw (sym e)

@@ -30,14 +30,14 @@ rows_take l (suc k) (suc n) i =
     let e : suc (min k n) ≡ min (suc k) (suc n) = omega arith in
     ap (λ (t : List Row). row_from l (i * 10) ∷ t) (rows_take l k n (suc i)) ∙ ap (rows_from l i) e
 
-pub rows_drop : (l : List ℕ) (k n i : ℕ) → drop k (rows_from l i n) ≡ rows_from l (i + min k n) (n - min k n)
+pub rows_drop : (l : List ℕ) (k n i : ℕ) → drop k (rows_from l i n) ≡ rows_from l (i + k) (n - k)
 unfolding rows_from
 rows_drop l zero n i =
-    let e : i ≡ i + min 0 n = omega arith in
-    let f : n ≡ n - min 0 n = omega arith in
+    let e : i ≡ i + 0 = omega arith in
+    let f : n ≡ n - 0 = omega arith in
     ap₂ (rows_from l) e f
-rows_drop l (suc k) zero i = let f : 0 ≡ 0 - min (suc k) 0 = omega arith in ap (rows_from l (i + min (suc k) 0)) f
+rows_drop l (suc k) zero i = let f : 0 ≡ 0 - suc k = omega arith in ap (rows_from l (i + suc k)) f
 rows_drop l (suc k) (suc n) i =
-    let e : suc i + min k n ≡ i + min (suc k) (suc n) = omega arith in
-    let f : n - min k n ≡ suc n - min (suc k) (suc n) = omega arith in
+    let e : suc i + k ≡ i + suc k = omega arith in
+    let f : n - k ≡ suc n - suc k = omega arith in
     rows_drop l k n (suc i) ∙ ap₂ (rows_from l) e f

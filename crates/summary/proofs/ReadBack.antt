@@ -17,8 +17,8 @@ use Rattle.words.specs.Words.{value, bytes_of}
 use Rattle.words.specs.Writer.{writing_of, written_over}
 use Rattle.words.proofs.Bytes.{bytes_length}
 use Rattle.summary.specs.declared.Block.{Block}
-use Rattle.summary.specs.declared.reader.Answer.{Answer}
-use Rattle.summary.specs.declared.reader.Answer.TheVariants.{Rows}
+use Rattle.std.specs.Prelude.{Result, Ok}
+use Rattle.summary.specs.declared.reader.Refusal.{Refusal}
 use Rattle.summary.specs.Blocks.{block_count, summary_of, block_numbers}
 use Rattle.summary.specs.Stored.{field, block_bytes, block_field, block_fields, stored_as, stored_of}
 use Rattle.summary.specs.Fields.{Fields, tagged, size_of, span_of, fields_of, block_from, Held, held, none, before, blocks_from, held_in}
@@ -105,7 +105,7 @@ summary_back l ok out out' w long wrote old new r room read =
       back =
           read.wrote
           ∙ ap (λ (b : List ℕ). left_in (answer_of b (length old)) (held_in (fields_of b)) old) bytes
-          ∙ ap₂ (λ (a : Answer) (h : Held). left_in a h old) answer holds;
+          ∙ ap₂ (λ (a : Result ℕ Refusal) (h : Held). left_in a h old) answer holds;
     }
   where
     stored : List ℕ
@@ -126,8 +126,8 @@ summary_back l ok out out' w long wrote old new r room read =
     holds : held_in (fields_of stored) ≡ held (length (rows_of l)) (summary_of (rows_of l))
     holds = summary_held (rows_of l) good (omega (arith, few, rows_of_length l))
 
-    answer : answer_of stored (length old) ≡ Rows (room_of l)
+    answer : answer_of stored (length old) ≡ Ok (room_of l)
     answer =
         let short : length stored ≤ 1073741824 = omega (arith, few, stored_length (rows_of l), rows_of_length l) in
         let fits : length (summary_of (rows_of l)) * 10 ≤ length old = omega (arith, room, block_numbers_length (rows_of l), summary_length (rows_of l)) in
-        rw (le-ltb 1073741824 (length stored) short, holds, le-leb _ _ fits) (ap Rows (rows_of_length l))
+        rw (le-ltb 1073741824 (length stored) short, holds, le-leb _ _ fits) (ap Ok (rows_of_length l))

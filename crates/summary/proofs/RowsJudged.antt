@@ -4,9 +4,8 @@ use Prim.Native.Nat.{ℕ, ◌+◌, ◌*◌, ◌≤◌, ◌<◌}
 use mathlib.Core.Bool.{Bool, true, false, cond}
 use mathlib.Core.List.{List}
 use lib.ListN.{length}
+use Rattle.std.specs.Prelude.{Ok, Err}
 use Rattle.rows.specs.declared.fault.Fault.TheVariants.{BadRow}
-use Rattle.rows.specs.declared.fault.Writing.TheVariants.{Written, Refused}
-use Rattle.rows.specs.declared.rules.Judged.TheVariants as judged
 use Rattle.rows.specs.declared.row.Row.{Row}
 use Rattle.rows.specs.Row.{time_of, room_of, row_from, rows_of}
 use Rattle.rows.specs.Rules.{good_row, Verdict}
@@ -37,14 +36,14 @@ module _ {l : List ℕ} {i : ℕ} (g : GoodSofar l i) where
   good_next h e =
       record {
         last = time_of row;
-        judging = judging_next (in_any_order good_row) g.judging h (sym (ap (λ (t : Bool). cond t (judged.Time (time_of row)) (judged.Refused BadRow)) e));
+        judging = judging_next (in_any_order good_row) g.judging h (sym (ap (λ (t : Bool). cond t (Ok (time_of row)) (Err BadRow)) e));
       }
 
-  pub bad_found : i < room_of l → good_row row ≡ false → Refused BadRow i ≡ writing_of (verdict_by (in_any_order good_row) (rows_of l) 0 0) (length (stored_of (rows_of l)))
+  pub bad_found : i < room_of l → good_row row ≡ false → Err (record { fault = BadRow; row = i }) ≡ writing_of (verdict_by (in_any_order good_row) (rows_of l) 0 0) (length (stored_of (rows_of l)))
   bad_found h e =
-      let refused = judging_refused (in_any_order good_row) g.judging h (sym (ap (λ (t : Bool). cond t (judged.Time (time_of row)) (judged.Refused BadRow)) e)) in
+      let refused = judging_refused (in_any_order good_row) g.judging h (sym (ap (λ (t : Bool). cond t (Ok (time_of row)) (Err BadRow)) e)) in
       sym (ap (λ (v : Verdict). writing_of v (length (stored_of (rows_of l)))) refused)
 
-  pub all_good : room_of l ≤ i → Written (7 + block_count (room_of l) * 59) ≡ writing_of (verdict_by (in_any_order good_row) (rows_of l) 0 0) (length (stored_of (rows_of l)))
+  pub all_good : room_of l ≤ i → Ok (7 + block_count (room_of l) * 59) ≡ writing_of (verdict_by (in_any_order good_row) (rows_of l) 0 0) (length (stored_of (rows_of l)))
   all_good h =
-      ap Written (sym (stored_bytes l)) ∙ sym (ap (λ (v : Verdict). writing_of v (length (stored_of (rows_of l)))) (judging_done (in_any_order good_row) g.judging h))
+      ap Ok (sym (stored_bytes l)) ∙ sym (ap (λ (v : Verdict). writing_of v (length (stored_of (rows_of l)))) (judging_done (in_any_order good_row) g.judging h))

@@ -2,8 +2,6 @@
 use Rattle.std.specs.Prelude.{ℕ, zero, suc, ◌+◌, ◌-◌, ◌*◌, min, Bool, cond, ◌&&◌, List, [], ◌∷◌, length, take, drop, get_or, eqb, ltb}
 use Rattle.words.specs.Words.{value}
 use Rattle.summary.specs.declared.Block.{Block}
-use Rattle.summary.specs.declared.reader.Front.{Front}
-use Rattle.summary.specs.declared.reader.Front.TheVariants as front
 use Rattle.summary.specs.Blocks.{block_count}
 
 -- the number at a place of some contents, and the block that 56 bytes hold
@@ -88,11 +86,3 @@ held_in (count n rest) = blocks_from n 0 rest
 held_in (block b rest) = none
 held_in whole = none
 held_in faulty = none
-
--- what stands at the front of bytes
-unfoldable pub field_front : List ℕ → Front
-field_front l =
-    cond (ltb (length l) (span_of l)) front.Faulty
-    (cond (eqb (get_or l 0 0) 1) (cond (eqb (size_of l) 4) front.Count front.Faulty)
-    (cond (eqb (get_or l 0 0) 2) (cond (eqb (size_of l) 56) front.Block front.Faulty)
-    (front.Other (size_of l))))

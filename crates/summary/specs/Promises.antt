@@ -1,14 +1,11 @@
 -- The laws of this crate, each proved in proofs/Kept.antt under the name in lower case.
-use Rattle.std.specs.Prelude.{◌≡◌, ℕ, ◌+◌, ◌*◌, ◌-◌, ◌≤◌, ◌<◌, min, Bool, length, take, get_or}
+use Rattle.std.specs.Prelude.{◌≡◌, ℕ, ◌+◌, ◌*◌, ◌-◌, ◌≤◌, ◌<◌, min, Bool, length, take, get_or, Result, Ok}
 use mathlib.Core.List.{List, [], ◌∷◌, flatten}
-use Rattle.rows.specs.declared.fault.Writing.{Writing}
-use Rattle.rows.specs.declared.fault.Writing.TheVariants.{Written}
+use Rattle.rows.specs.declared.fault.WriteError.{WriteError}
 use Rattle.rows.specs.declared.row.Row.{Row}
 use Rattle.rows.specs.Row.{over, All, time_of, room_of, rows_of}
 use Rattle.rows.specs.Rules.{good_row, AllGood, accepted}
 use Rattle.summary.specs.declared.Block.{Block}
-use Rattle.summary.specs.declared.reader.Answer.{Answer}
-use Rattle.summary.specs.declared.reader.Answer.TheVariants.{Rows}
 use Rattle.summary.specs.declared.reader.Refusal.{Refusal}
 use Rattle.summary.specs.Blocks.{block_count, blocks_of, rows_of_kind, block_of, summary_of, block_numbers}
 use Rattle.summary.specs.Stored.{stored_of}
@@ -89,14 +86,14 @@ SummaryHeld = (rs : List Row) → AllGood rs → length rs ≤ 16777216 → held
 
 -- and of what the writer and the reader promise: of every list that is not refused 13 or 12, written with room for its summary, and read from there with room for
 -- its numbers. The writer answers the bytes and the reader the rows, and the buffer that was read into begins with the numbers and is else as it was
-pub record BackAgain (l old new : List ℕ) (w : Writing) (r : Answer) : Type 0 where
-  pub written : w ≡ Written (length (stored_of (rows_of l)))
-  pub rows : r ≡ Rows (room_of l)
+pub record BackAgain (l old new : List ℕ) (w : Result ℕ WriteError) (r : Result ℕ Refusal) : Type 0 where
+  pub written : w ≡ Ok (length (stored_of (rows_of l)))
+  pub rows : r ≡ Ok (room_of l)
   pub back : new ≡ over (block_numbers (rows_of l)) old
 
 abbrev pub SummaryBack : Type 0
 SummaryBack =
     (l : List ℕ) → verdict_on (in_any_order good_row) l ≡ accepted
-    → (out out' : List ℕ) (w : Writing) → length (stored_of (rows_of l)) ≤ length out → WroteSummary l out out' w
-    → (old new : List ℕ) (r : Answer) → length (block_numbers (rows_of l)) ≤ length old → ReadAs (take (length (stored_of (rows_of l))) out') old new r
+    → (out out' : List ℕ) (w : Result ℕ WriteError) → length (stored_of (rows_of l)) ≤ length out → WroteSummary l out out' w
+    → (old new : List ℕ) (r : Result ℕ Refusal) → length (block_numbers (rows_of l)) ≤ length old → ReadAs (take (length (stored_of (rows_of l))) out') old new r
     → BackAgain l old new w r

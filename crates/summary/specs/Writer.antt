@@ -1,12 +1,13 @@
 -- What the writer's functions promise: `WroteSummary`, and what the private ones do towards it. 02, R-6.
-use Rattle.std.specs.Prelude.{◌≡◌, ℕ, ◌+◌, ◌*◌, ◌≤◌, ◌<◌, min, max, List, length}
-use Rattle.rows.specs.declared.fault.Writing.{Writing}
+use Rattle.std.specs.Prelude.{◌≡◌, ℕ, ◌+◌, ◌≤◌, ◌<◌, min, max, List, length, Result}
+use Rattle.std.proofs.lemmas.List.Edits.{sets}
+use Rattle.rows.specs.declared.fault.WriteError.{WriteError}
 use Rattle.rows.specs.declared.fault.WritingNumbers.{WritingNumbers}
 use Rattle.rows.specs.declared.row.Row.{Row}
-use Rattle.rows.specs.Row.{time_of, room_of, rows_of}
+use Rattle.rows.specs.Row.{time_of, rows_of}
 use Rattle.rows.specs.Rules.{good_row, Verdict}
 use Rattle.summary.specs.declared.Block.{Block}
-use Rattle.summary.specs.Blocks.{block_count, of_kind}
+use Rattle.summary.specs.Blocks.{of_kind}
 use Rattle.summary.specs.Stored.{stored_of}
 use Rattle.summary.specs.Verdicts.{in_any_order}
 use Rattle.summary.specs.Writers.{verdict_in, WroteBytes, WroteBytesNumbers}
@@ -16,7 +17,7 @@ abbrev pub summary_verdict : List ℕ → ℕ → Verdict
 summary_verdict l bytes = verdict_in (in_any_order good_row) l (length (stored_of (rows_of l))) bytes
 
 -- the writer's promise, of every list and every buffer: it answers the number of bytes
-abbrev pub WroteSummary : (l old new : List ℕ) → Writing → Type 0
+abbrev pub WroteSummary : (l old new : List ℕ) → Result ℕ WriteError → Type 0
 WroteSummary l old new r = WroteBytes (summary_verdict l (length old)) (length (stored_of (rows_of l))) (stored_of (rows_of l)) old new r
 
 -- the same promise of an answer as numbers
@@ -54,8 +55,7 @@ pub record Within (rows from to : ℕ) : Type 0 where
   pub few : to ≤ from + 256
   pub inside : to ≤ rows
 
--- a list of n rows, and room for its summary
-pub record Ready (l : List ℕ) (n : ℕ) (out : List ℕ) : Type 0 where
-  pub rows : n ≡ room_of l
-  pub short : n ≤ 16777216
-  pub room : 7 + block_count n * 59 ≤ length out
+-- bytes are put at a place, and the place after them is answered
+pub record Puts (bytes old : List ℕ) (at : ℕ) (new : List ℕ) (r : ℕ) : Type 0 where
+  pub place : r ≡ at + length bytes
+  pub wrote : new ≡ sets old at bytes

@@ -7,18 +7,18 @@
 // specs/Blocks.antt says what is kept of a list, specs/Stored.antt which bytes that is, and specs/Fields.antt what any bytes hold.
 #![tactic(auto)]
 
-ghost use Rattle.std.specs.Prelude.{◌≡◌, min};
-ghost use Rattle.summary.specs.Blocks.{block_count};
+ghost use Rattle.std.specs.Prelude.{◌≡◌};
+ghost use Rattle.summary.specs.Blocks.{block_count, ten_of};
 
 mod reader;
 mod writer;
 
-pub use reader::{Answer, Refusal, SummaryNumbers, read};
+pub use reader::{Refusal, SummaryNumbers, read};
 pub use writer::write;
 
 // What is kept of a block of rows: four times in microseconds, and the number of rows of each kind, 1 to 6. No good row is a
 // packet any more.
-#[derive(Clone, Copy)]
+#[derive(Clone, Copy, Debug, Default, PartialEq, Eq)]
 pub struct Block {
     pub first: u64,
     pub last: u64,
@@ -32,15 +32,29 @@ pub struct Block {
     pub specials: u32,
 }
 
+impl Block {
+    // The ten numbers of a block, as the reader hands them out.
+    pub(crate) fn numbers(self) -> [u64; 10]
+        ensures { result ≡ ten_of self }
+    {
+        [
+            self.first,
+            self.last,
+            self.smallest,
+            self.largest,
+            self.pixels as u64,
+            self.triggers as u64,
+            self.counts as u64,
+            self.singles as u64,
+            self.packets as u64,
+            self.specials as u64,
+        ]
+    }
+}
+
 // How many blocks so many rows make.
 pub fn block_count(rows: usize) -> usize
     ensures { result ≡ block_count rows }
 {
-    rows / 256 + (rows % 256 + 255) / 256
-}
-
-pub(crate) fn least(a: u64, b: u64) -> u64
-    ensures { result ≡ min a b }
-{
-    if a <= b { a } else { b }
+    rows.div_ceil(256)
 }

@@ -1,7 +1,7 @@
 -- `summary::writer::count` meets its contract: row by row.
 use mathlib.Core.Path.{sym, ◌∙◌, ap}
 use native.Mathlib.Omega.{arith}
-use Rattle.rows.specs.declared.fault.Writing.TheVariants.{Written}
+use Rattle.std.specs.Prelude.{Ok}
 use Rattle.rows.specs.Rules.{good_row}
 use Rattle.summary.proofs.RowsJudged.{good_start, good_next, bad_found, all_good}
 use Rattle.summary.proofs.writer.count.Goals as goal
@@ -22,4 +22,4 @@ loop-i-preserved c =
 pub returns : goal.returns
 returns c =
     let n = c.room-n.ensures in
-    ap Written (omega (arith, n, c.block_count.ensures)) ∙ all_good c.loop-i.invariant (omega (arith, n))
+    ap Ok (omega (arith, n, c.block_count.ensures)) ∙ all_good c.loop-i.invariant (omega (arith, n))

@@ -1,10 +1,6 @@
 -- `summary::writer::count` meets its contract: row by row.
-use Prim.Native.Nat.{◌-◌}
 use Rattle.summary.proofs.RowsJudged.{GoodSofar}
 use Rattle.summary.proofs.writer.count.Given as goal
 
 abbrev pub invariant-loop-i : goal.invariant-loop-i
 invariant-loop-i l = GoodSofar l.rows l.i
-
-abbrev pub decreases-loop-i : goal.decreases-loop-i
-decreases-loop-i l = l.n - l.i

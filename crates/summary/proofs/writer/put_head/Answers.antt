@@ -1,11 +1,7 @@
 -- `summary::writer::put_head` meets its contract.
-use mathlib.Core.Path.{refl}
-use Rattle.words.specs.Words.{bytes_of}
-use Rattle.summary.proofs.Putting.{then_put}
+use native.Mathlib.Omega.{arith}
+use Rattle.summary.proofs.Putting.{puts_byte, puts_word, puts_then}
 use Rattle.summary.proofs.writer.put_head.Goals as goal
 
 pub returns : goal.returns
-unfolding bytes_of
-returns c =
-    then_put c.args.out.now (bytes_of 1 c.args.tag) (bytes_of 2 c.args.size) c.args.at _
-    c.put_number.ensures refl c.put_number-2.ensures
+returns c = puts_then (puts_byte c.args.out.now c.args.at c.args.tag (omega arith)) (puts_word c.put_word.ensures)

@@ -1,5 +1,5 @@
 -- The end of a keyword, by the place of the first byte that ends it; and the names, in any letter case.
-use Rattle.std.proofs.Common.{◌≡◌, refl, sym, ◌∙◌, ap, ℕ, suc, ◌≤◌, Bool, true, false, cond, List, [], ◌∷◌, length, arith, Option, map, ◌&&◌, eqb, ap₂}
+use Rattle.std.proofs.Common.{◌≡◌, refl, sym, ◌∙◌, ap, ℕ, suc, ◌≤◌, Bool, true, cond, List, [], ◌∷◌, length, arith, Option, map, ◌&&◌, eqb, ap₂}
 use Rattle.std.specs.List.{position, position_or_len}
 use Rattle.std.specs.Option.{unwrap_or}
 use Rattle.std.specs.Char.{to_ascii_lowercase}
@@ -36,11 +36,9 @@ named_as [] (d ∷ u) = refl
 named_as (c ∷ t) [] = refl
 named_as (c ∷ t) (d ∷ u) = ap₂ (λ (n : ℕ) (b : Bool). eqb n d && b) (lower_is c) (named_as t u)
 
--- what a test of a keyword in lower case tells
-pub named_if : (k name : List ℕ) (r : Bool) → (r ≡ true → map to_ascii_lowercase k ≡ name) × (map to_ascii_lowercase k ≡ name → r ≡ true) → r ≡ named k name
-named_if k name true h = sym (named_as k name ∙ (bytes_eq-Decides (map to_ascii_lowercase k) name).1 (h.0 refl))
-named_if k name false h = go (named k name) refl
-  where
-    go : (t : Bool) → named k name ≡ t → false ≡ t
-    go true e = h.1 ((bytes_eq-Decides (map to_ascii_lowercase k) name).0 (sym (named_as k name) ∙ e))
-    go false e = refl
+-- a keyword is a name where it is that in lower case
+pub named_true : (k name : List ℕ) → map to_ascii_lowercase k ≡ name → named k name ≡ true
+named_true k name e = named_as k name ∙ (bytes_eq-Decides (map to_ascii_lowercase k) name).1 e
+
+pub named_name : (k name : List ℕ) → named k name ≡ true → map to_ascii_lowercase k ≡ name
+named_name k name e = (bytes_eq-Decides (map to_ascii_lowercase k) name).0 (sym (named_as k name) ∙ e)

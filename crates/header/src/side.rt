@@ -28,6 +28,7 @@ fn keyword_length(text: &[u8]) -> usize
 }
 
 // The side that a keyword names, in any letter case.
+#[tactic(auto, using(crate::proofs::Keywords::named_true, crate::proofs::Keywords::named_name), unfolding(crate::specs::Sides::side_of))]
 fn side_of(keyword: &[u8]) -> Option<Side>
     ensures { result ≡ side_of keyword.now }
 {

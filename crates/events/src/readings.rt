@@ -23,7 +23,8 @@ pub fn acceleration(count: u16) -> f32
     signed(count) / 16384.0
 }
 
-// The rotation of a count in degrees a second, rounded once.
+// The rotation of a count in degrees a second, rounded once. A const parameter for the divisor would be no plainer: each of the two is one line,
+// and has a law of its own.
 #[tactic(auto, using(crate::proofs::Floats::divisor_bits_131), unfolding(crate::specs::Readings::rotation_of))]
 pub fn rotation(count: u16) -> f32
     ensures { result ≡ rotation_of count }

@@ -41,10 +41,7 @@ signed_low c h = simp (lt-ltb _ _ h)
 signed_high : (c : ℕ) → 32768 ≤ c → c < 65536 → signed_of c ≡ negsuc (65536 - suc c)
 signed_high c h g = simp (le-ltb _ _ h, lt-ltb _ _ g)
 
--- the code's single of a count below 32,768, and of one from there up
-pub signed_positive : (c : ℕ) → c < 32768 → of_int binary32 (pos c) ≡ of_int binary32 (signed_of c)
-signed_positive c h = ap (of_int binary32) (sym (signed_low c h))
-
+-- the code's single of a count from 32,768 up
 pub signed_negative : (c : ℕ) → 32768 ≤ c → c < 65536 → neg (of_int binary32 (pos (65535 - c + 1))) ≡ of_int binary32 (signed_of c)
 signed_negative c h g =
     let e : 65535 - c + 1 ≡ suc (65536 - suc c) = omega arith in

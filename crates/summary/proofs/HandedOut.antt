@@ -1,10 +1,11 @@
 -- The numbers of blocks, handed out one block after the other.
-use mathlib.Core.Path.{◌≡◌, refl, sym, ◌∙◌, ap}
-use Prim.Native.Nat.{ℕ, ◌+◌, ◌-◌, ◌*◌, ◌≤◌, ◌<◌}
+use mathlib.Core.Path.{◌≡◌, sym, ◌∙◌, ap, ap₂}
+use Prim.Native.Nat.{ℕ, ◌+◌, ◌*◌, ◌/◌, ◌≤◌}
 use native.Mathlib.Omega.{arith}
 use mathlib.Core.List.{List, [], ◌∷◌}
 use lib.ListN.{length}
 use lib.Seq.{sets, length-sets}
+use Rattle.std.proofs.lemmas.List.{nil_from_length}
 use Rattle.std.specs.Prelude.{Option, Some, None, Result, Ok, Err}
 use Rattle.std.specs.Borrow.{Bor}
 use Rattle.std.specs.Result.{result_unwrap_or}
@@ -18,39 +19,33 @@ use Rattle.summary.specs.Reader.{before_fields, next_in, front_blocks, HandedOut
 use Rattle.summary.proofs.EachOf.{each_next, each_none}
 use Rattle.summary.proofs.FieldByField.{next_found, next_none}
 
--- the numbers of the blocks before `rest` are put, `at` is the place after them, and with those of `rest` the buffer becomes what it is to be
-pub record HandingOut (l old rest out : List ℕ) (at : ℕ) : Type 0 where
+-- the numbers of j blocks are put, and with those of the blocks that `rest` begins with the buffer becomes what it is to be
+pub record HandingOut (l old rest out : List ℕ) (j : ℕ) : Type 0 where
   pub long : length out ≡ length old
-  pub within : at ≤ length old
-  pub place : at + length (front_blocks (fields_of rest)) * 10 ≡ length (front_blocks (fields_of l)) * 10
-  pub same : sets out at (tens_of (front_blocks (fields_of rest))) ≡ sets old 0 (tens_of (front_blocks (fields_of l)))
+  pub many : j + length (front_blocks (fields_of rest)) ≡ length (front_blocks (fields_of l))
+  pub same : sets out (j * 10) (tens_of (front_blocks (fields_of rest))) ≡ sets old 0 (tens_of (front_blocks (fields_of l)))
 
-pub handing_out : (l old : List ℕ) → HandingOut l old l old 0
-handing_out l old = record { long = refl; within = omega arith; place = omega arith; same = refl }
-
-module _ {l old rest out : List ℕ} {at : ℕ} (h : HandingOut l old rest out at) where
-  module _ {b : Block} (after : List ℕ) (e : fields_of rest ≡ Fields.block b (fields_of after)) where
-    next_blocks : front_blocks (fields_of rest) ≡ b ∷ front_blocks (fields_of after)
-    next_blocks = ap front_blocks e
-
-    pub hand_full : length out - at < 10 → HandedOut (fields_of l) old out
-    hand_full g = record { long = h.long; wrote = λ f. absurd (omega (arith, h.long, h.within, h.place, ap length next_blocks)) }
-
-    pub hand_next : {new : List ℕ} → new ≡ sets out at (ten_of b) → 10 ≤ length out - at → HandingOut l old after new (at + 10)
-    hand_next {new} f g =
-        record {
-          long = ap length f ∙ length-sets out at (ten_of b) ∙ h.long;
-          within = omega (arith, h.long, h.within);
-          place = omega (arith, h.place, ap length next_blocks);
-          same =
-              ap (λ (o : List ℕ). sets o (at + 10) (tens_of (front_blocks (fields_of after)))) f
-              ∙ sym (sets_append (ten_of b) (tens_of (front_blocks (fields_of after))) out at)
-              ∙ ap (sets out at) (sym (each_next ten_of b (front_blocks (fields_of after))) ∙ ap tens_of (sym next_blocks))
-              ∙ h.same;
-        }
+module _ {l old rest out : List ℕ} {j : ℕ} (h : HandingOut l old rest out j) where
+  pub hand_next : (after : List ℕ) {b : Block} → fields_of rest ≡ Fields.block b (fields_of after) → {new : List ℕ} → new ≡ sets out (j * 10) (ten_of b) → HandingOut l old after new (j + 1)
+  hand_next after {b} e {new} f =
+      let next : front_blocks (fields_of rest) ≡ b ∷ front_blocks (fields_of after) = ap front_blocks e in
+      let place : (j + 1) * 10 ≡ j * 10 + length (ten_of b) = omega arith in
+      record {
+        long = ap length f ∙ length-sets out (j * 10) (ten_of b) ∙ h.long;
+        many = omega (arith, h.many, ap length next);
+        same =
+            ap₂ (λ (o : List ℕ) (k : ℕ). sets o k (tens_of (front_blocks (fields_of after)))) f place
+            ∙ sym (sets_append (ten_of b) (tens_of (front_blocks (fields_of after))) out (j * 10))
+            ∙ ap (sets out (j * 10)) (sym (each_next ten_of b (front_blocks (fields_of after))) ∙ ap tens_of (sym next))
+            ∙ h.same;
+      }
 
   pub hand_done : front_blocks (fields_of rest) ≡ [] → HandedOut (fields_of l) old out
-  hand_done e = record { long = h.long; wrote = λ f. ap (sets out at) (sym (each_none ten_of)) ∙ ap (λ (bs : List Block). sets out at (tens_of bs)) (sym e) ∙ h.same }
+  hand_done e =
+      record { long = h.long; wrote = λ f. ap (sets out (j * 10)) (sym (each_none ten_of)) ∙ ap (λ (bs : List Block). sets out (j * 10) (tens_of bs)) (sym e) ∙ h.same }
+
+  pub hand_full : length old / 10 ≤ j → HandedOut (fields_of l) old out
+  hand_full g = record { long = h.long; wrote = λ f. (hand_done (nil_from_length (front_blocks (fields_of rest)) (omega (arith, h.many)))).wrote f }
 
 -- the next field, where a fault ends the blocks as the end does
 pub front_found : (r : Result (Option (Field × Bor (List ℕ))) Refusal) {f : Fields} → f ≡ next_in r → {field same : Field} {after : Bor (List ℕ)} → Some (field, after) ≡ result_unwrap_or r None

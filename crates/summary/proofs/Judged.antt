@@ -35,9 +35,6 @@ pub record Judged (l : List ℕ) (n : ℕ) (rest : List ℕ) (left many : ℕ) :
   pub rows : left ≡ n - many * 256
   pub within : many + length rest ≤ length l
 
-pub judged_none : (l : List ℕ) (n : ℕ) → Judged l n l n 0
-judged_none l n = record { same = sym (more_none (many_of (blocks_from n 0 (fields_of l)))); rows = omega arith; within = omega arith }
-
 module _ {l : List ℕ} {n : ℕ} {rest : List ℕ} {left many : ℕ} (j : Judged l n rest left many) where
   abbrev answer : Result ℕ Refusal
   answer = many_of (blocks_from n 0 (fields_of l))

@@ -18,6 +18,7 @@ pub use writer::write;
 
 // What is kept of a block of rows: four times in microseconds, and the number of rows of each kind, 1 to 6. No good row is a
 // packet any more.
+// The six numbers are named and no array: a name says what is counted, and an array's length would stand in every law.
 #[derive(Clone, Copy, Debug, Default, PartialEq, Eq)]
 pub struct Block {
     pub first: u64,

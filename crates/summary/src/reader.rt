@@ -170,22 +170,20 @@ fn judge(fields: &[u8], rows: usize) -> Result<usize, Refusal>
     Ok(many)
 }
 
-// Puts the ten numbers of each block, one block after the other, as far as there is room.
+// Puts the ten numbers of each block, one block after the other, as far as there is room. A fault ends them, as the end does.
 fn hand_out(fields: &[u8], out: &mut [u64])
     ensures { HandedOut (fields_of fields.now) out.old out.new }
 {
     let mut rest = fields;
-    let mut at: usize = 0;
-    while let Some((field, after)) = next_field(rest).unwrap_or(None) {
+    for j in 0..out.len() / 10 {
+        let Some((field, after)) = next_field(rest).unwrap_or(None) else {
+            return;
+        };
         let Field::Block(block) = field else {
             return;
         };
-        if out.len() - at < 10 {
-            return;
-        }
-        let end = at + 10;
-        out[at..end].copy_from_slice(&block.numbers());
-        at = end;
+        let at = j * 10;
+        out[at..at + 10].copy_from_slice(&block.numbers());
         rest = after;
     }
 }

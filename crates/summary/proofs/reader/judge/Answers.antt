@@ -3,12 +3,9 @@ use Rattle.std.proofs.Common.{◌≡◌, Err, sym, ◌∙◌, ap}
 use Rattle.std.proofs.lemmas.Result.{err_from_is_err_and}
 use Rattle.summary.specs.Fields.{Fields, fields_of}
 use Rattle.summary.proofs.FieldByField.{next_found, next_none, next_shorter}
-use Rattle.summary.proofs.Judged.{judged_none, judged_faulty, judged_count, judged_wrong, judged_next, judged_other, judged_all}
+use Rattle.summary.proofs.Judged.{judged_faulty, judged_count, judged_wrong, judged_next, judged_other, judged_all}
 use Rattle.summary.proofs.reader.judge.Goals as goal
 use Rattle.summary.proofs.reader.judge.Goals.{In-Block}
-
-pub loop-field-init : goal.loop-field-init
-loop-field-init c = judged_none _ _
 
 pub returns-in_err-field : goal.returns-in_err-field
 returns-in_err-field c =

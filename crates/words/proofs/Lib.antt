@@ -11,6 +11,7 @@ pub mod Places
 pub mod ReadBack
 pub mod Returned
 pub mod RowsGiven
+pub mod Stepped
 pub mod TwoParts
 pub mod Walks
 pub mod WordByWord

@@ -1,7 +1,8 @@
 -- What a writer answers, case by case, once its rows were judged and their words counted.
 use mathlib.Core.Path.{◌≡◌, refl, sym, ◌∙◌, ap}
-use Prim.Native.Nat.{ℕ, ◌*◌, ◌≤◌, ◌<◌}
+use Prim.Native.Nat.{ℕ, ◌*◌, ◌/◌, ◌≤◌, ◌<◌}
 use native.Mathlib.Omega.{arith}
+use native.Mathlib.Nat.{le-div_iff_mul-le, div-lt_iff_lt-mul}
 use mathlib.Core.Bool.{Bool, true, false, cond}
 use mathlib.Core.List.{List}
 use lib.ListN.{length}
@@ -73,6 +74,14 @@ module _ (s : Spelling) (l old : List ℕ) where
     unfolding writing_verdict
     wrote_all {n} e f g =
         rw (word_count e) (as_accepted (rw (judged, passed e, sym (word_count e), le-leb _ _ f)) (rw (sym (word_count e)) f) g)
+
+-- the room for n words of a size, as a quotient
+module _ {n room size k : ℕ} (s : Spelling) (sized : s.size ≡ size) (some : 0 < size) (is : k ≡ size) where
+  pub too_few : room / k < n → room < n * s.size
+  too_few h = rw sized ((div-lt_iff_lt-mul some).0 (rw is at h))
+
+  pub enough : n ≤ room / k → n * s.size ≤ room
+  enough h = rw sized ((le-div_iff_mul-le some).0 (rw is at h))
 
 -- a list that passes 13, 12 and 5 is refused where the buffer is shorter than its words, and there alone
 pub room_exact : (s : Spelling) (l : List ℕ) (bytes : ℕ) → verdict_of s.writable l ≡ accepted → RoomExact s l bytes

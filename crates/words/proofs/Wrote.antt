@@ -16,7 +16,8 @@ use Rattle.rows.proofs.Stored.{put_row_fits, put_row_full}
 use Rattle.words.specs.declared.Stop.{Stop}
 use Rattle.words.specs.declared.Stop.TheVariants.{Full, Refused}
 use Rattle.words.specs.Machine.{Outcome, next, fault, Given, gives, refuses, onto}
-use Rattle.words.specs.Written.{given_of, GaveAs}
+pub use Rattle.words.specs.Written.{next_of}
+use Rattle.words.specs.Written.{given_of, IsGiven, GaveAs}
 
 -- an outcome is what it gives with its next state, and any state where it is refused
 pub given_onto : {S : Type 0} (g : Given) (s : S) → given_of (onto g s) ≡ g
@@ -25,11 +26,6 @@ given_onto (refuses f) s = refl
 
 pub gave_onto : {S : Type 0} (s : S) {g : Given} {n : ℕ} {old buf : List ℕ} {r : Result ℕ Stop} → GaveAs g n old buf r → GaveAs (given_of (onto g s)) n old buf r
 gave_onto s {g} {n} {old} {buf} {r} h = subst (λ (a : Given). GaveAs a n old buf r) (sym (given_onto g s)) h
-
--- the next state of an outcome, which is `s` where it is refused
-abbrev pub next_of : {S : Type 0} → Outcome S → S → S
-next_of (next s' new) s = s'
-next_of (fault f) s = s
 
 pub onto_given : {S : Type 0} (o : Outcome S) (s : S) → o ≡ onto (given_of o) (next_of o s)
 onto_given (next s' new) s = refl
@@ -91,6 +87,11 @@ gave_all (gives new) {n} {old} {buf} {k} h = go (leb (n + length new) (room_of o
         → WroteAll (gives new) n old buf k
     go true e a b = record { new = new; given = refl; count = sym (same_rows a); fits = leb-true _ _ e; wrote = b }
     go false e a b = no_stop (sym a)
+
+-- a word that gave rows is not refused
+pub is_given : {g : Given} {n : ℕ} {old buf : List ℕ} {r : Result ℕ Stop} {k : ℕ} → GaveAs g n old buf r → r ≡ Ok k → IsGiven g
+is_given {g} {n} {old} {buf} {r} {k} h e =
+    subst IsGiven (sym (gave_all g (subst (GaveAs g n old buf) e h)).given) tt
 
 -- a refusal of the word's own
 pub gave_fault : (g : Given) {n : ℕ} {old buf : List ℕ} {f : Fault} → GaveAs g n old buf (Err (Refused f)) → (g ≡ refuses f) × (buf ≡ old)

@@ -1,5 +1,5 @@
 -- What a function that writes a word's rows answers, and what it leaves in the buffer.
-use Rattle.std.specs.Prelude.{◌≡◌, ℕ, ◌+◌, ◌*◌, cond, List, length, leb, Result, Ok, Err}
+use Rattle.std.specs.Prelude.{◌≡◌, ℕ, ◌+◌, ◌*◌, cond, List, length, leb, Result, Ok, Err, ⊤}
 use Rattle.std.proofs.lemmas.List.Edits.{sets}
 use Rattle.rows.specs.Row.{flat, room_of}
 use Rattle.words.specs.declared.Stop.{Stop}
@@ -25,3 +25,13 @@ gave_to (refuses f) n old = old
 pub record GaveAs (g : Given) (n : ℕ) (old new : List ℕ) (r : Result ℕ Stop) : Type 0 where
   pub answer : r ≡ gave_of g n (room_of old)
   pub wrote : new ≡ gave_to g n old
+
+-- the next state of an outcome, which is `s` where it is refused
+abbrev pub next_of : {S : Type 0} → Outcome S → S → S
+next_of (next s' new) s = s'
+next_of (fault f) s = s
+
+-- rows, and no refusal
+abbrev pub IsGiven : Given → Type 0
+IsGiven (gives new) = ⊤
+IsGiven (refuses f) = ⊥

@@ -2,11 +2,13 @@
 //
 // A format of words is a machine over a state of its own: the size of a word, what a word does to the state and which
 // rows it gives, where the group in hand begins, and whether one is. What the machine gives for any bytes is said once,
-// in specs/Machine.antt; the invariant of the loop that runs it is proved once, in proofs/Between.antt.
+// in specs/Machine.antt, and one loop runs every machine. What a list of rows is written as is said in specs/Writer.antt.
 //
 //     Word                          a word of two, four or eight bytes: u16, u32, u64
 //     first::<W>(bytes)             the word at the front of a slice, a part of one, or the end
 //     put_word::<W>(out, at, n)     a number stored as a word
+//     Reader, read_words            a format that is read, and the loop that reads it
+//     Writer, write                 a format that is written, and the function that writes it
 //     give(rows, n, row)            a word's row into a lent slice, after the n that are there
 //     Stop                          why a word's rows were not written
 //     admit(bytes, picture)         refusals 1 and 14, which come before the first word
@@ -22,10 +24,14 @@ ghost use Rattle.words.specs.Written.{GaveAs};
 use rows::{Fault, Row};
 
 mod picture;
+mod reader;
 mod word;
+mod writer;
 
 pub use picture::{Picture, admit};
+pub use reader::{Reader, read_words};
 pub use word::{Word, first, put_word};
+pub use writer::{Writer, write};
 
 // Why none of a word's rows were written: there is no room for them, or the word is refused.
 #[derive(Clone, Copy, Debug, PartialEq, Eq)]

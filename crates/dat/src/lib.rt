@@ -12,6 +12,7 @@
 // what any bytes give.
 #![tactic(auto)]
 
+mod events;
 mod reader;
 mod state;
 

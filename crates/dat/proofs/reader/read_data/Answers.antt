@@ -10,7 +10,7 @@ returns-then-bytes-at-lt2 c = reads_cut _ _ _ (omega arith)
 
 pub returns-then-bytes-at-eq8 : goal.returns-then-bytes-at-eq8
 returns-then-bytes-at-eq8 c =
-    reads_events _ _ _ (omega arith) c.if-bytes-at-eq0.true c.if-bytes-at-eq8.true c.read_events.ensures
+    reads_events _ _ _ (omega arith) c.if-bytes-at-eq0.true c.if-bytes-at-eq8.true c.read_words.ensures
 
 pub returns-else-bytes-at-eq0 : goal.returns-else-bytes-at-eq0
 returns-else-bytes-at-eq0 c =

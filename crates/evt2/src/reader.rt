@@ -6,6 +6,7 @@ ghost use Rattle.words.specs.Picture.{picture_of};
 ghost use Rattle.evt2.specs.State.{fresh};
 ghost use Rattle.evt2.specs.Reader.{machine, reading_of};
 
+use crate::kind::Kind;
 use crate::state::State;
 use rows::{Fault, ReadError};
 use words::{Picture, Stop};
@@ -47,8 +48,27 @@ fn read_words(bytes: &[u8], picture: Picture, rows: &mut [u32]) -> Result<usize,
                 });
             }
         }
-        state = state.after(kind, at, w);
+        let place = at;
         at += 4;
+        // An arm for each kind ends the turn, since one path for all is half as fast.
+        match kind {
+            Kind::TimeHigh => {
+                state = state.time_high(w);
+                continue;
+            }
+            Kind::ImuEvt => {
+                state = state.imu_evt(place, w);
+                continue;
+            }
+            Kind::Inside => {
+                state = state.further(w);
+                continue;
+            }
+            // the other kinds set nothing
+            _ => {
+                continue;
+            }
+        }
     }
     if state.is_pending() {
         return Err(ReadError {

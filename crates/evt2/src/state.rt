@@ -1,7 +1,7 @@
 // What a reader knows between words, and what each kind of word does with it.
 ghost use Rattle.std.specs.Prelude.{◌≡◌, ◌%◌};
 ghost use Rattle.evt2.specs.State.{fresh, pending, origin, with_high, further};
-ghost use Rattle.evt2.specs.Words.{kind_in, time_at, goes_back, imu_begun, next_as};
+ghost use Rattle.evt2.specs.Words.{kind_in, time_at, goes_back, imu_begun};
 
 use crate::kind::Kind;
 
@@ -89,20 +89,8 @@ impl State {
         false
     }
 
-    // The state after a word of a kind at a place; kinds that are not named set nothing.
-    pub(crate) fn after(self, kind: Kind, place: usize, w: u64) -> State
-        ensures { result ≡ next_as kind self place w }
-    {
-        match kind {
-            Kind::TimeHigh => self.time_high(w),
-            Kind::ImuEvt => self.imu_evt(place, w),
-            Kind::Inside => self.further(w),
-            _ => self,
-        }
-    }
-
     // EVT_TIME_HIGH: the high part.
-    fn time_high(mut self, w: u64) -> State
+    pub(crate) fn time_high(mut self, w: u64) -> State
         ensures { result ≡ with_high self (w % 268435456) }
     {
         self.high = (w % 268435456) as u32;
@@ -112,7 +100,7 @@ impl State {
 
     // IMU_EVT: an IMU reading begins, if the high part is known.
     #[tactic(auto, unfolding(crate::specs::Words::imu_begun))]
-    fn imu_evt(mut self, place: usize, w: u64) -> State
+    pub(crate) fn imu_evt(mut self, place: usize, w: u64) -> State
         ensures { result ≡ imu_begun self place w }
     {
         if self.known {
@@ -124,7 +112,7 @@ impl State {
     }
 
     // One word more of the group in hand.
-    fn further(mut self, w: u64) -> State
+    pub(crate) fn further(mut self, w: u64) -> State
         ensures { result ≡ further self w }
     {
         self.a = self.b;

@@ -1,16 +1,17 @@
 -- Lemmas.
 pub mod Bits
+pub mod CaseWords
 pub mod Chosen
 pub mod ColumnWalk
 pub mod Columns
 pub mod Counting
 pub mod Groups
-pub mod Lengths
 pub mod Marks
 pub mod OtherRows
 pub mod PutSteps
 pub mod RowRuns
 pub mod RowSteps
+pub mod Sinks
 pub mod SpanSteps
 pub mod Steps
 pub mod Storing

@@ -15,7 +15,7 @@ unless_short false w = omega arith
 pub y_short : (told : Told) (y camera : ℕ) → length (y_words told y camera) ≤ 1
 y_short told y camera = unless_short (told.lined && eqb told.y y && eqb told.camera camera) _
 
-pub high_short : (n : ℕ) (known : Bool) (old high : ℕ) → length (high_words n known old high) ≤ 1 + 2 * n
+high_short : (n : ℕ) (known : Bool) (old high : ℕ) → length (high_words n known old high) ≤ 1 + 2 * n
 unfolding high_words
 high_short zero known old high = unless_short (known && eqb old high) (high_word high)
 high_short (suc n) known old high =
@@ -36,7 +36,3 @@ time_words_lem timed old time =
 pub time_short : (timed : Bool) (old time : ℕ) → old ≤ time
     → length (time_words timed old time) + 2 * (old / 16777216) ≤ 2 + 2 * (time / 16777216)
 time_short timed old time h = omega (arith, time_words_lem timed old time)
-
--- and so many whatever the old time is
-pub time_most : (timed : Bool) (old time : ℕ) → length (time_words timed old time) ≤ 2 + 2 * (time / 16777216)
-time_most timed old time = omega (arith, time_words_lem timed old time)

@@ -1,5 +1,6 @@
 -- Definitions that the contracts cite.
 pub mod Reader
+pub mod Sinks
 pub mod Spelling
 pub mod State
 pub mod Vectors

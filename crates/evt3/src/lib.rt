@@ -20,10 +20,11 @@
 
 mod given;
 mod kind;
-mod length;
 mod put;
 mod reader;
+mod sink;
 mod span;
+mod standing;
 mod state;
 mod told;
 mod writer;

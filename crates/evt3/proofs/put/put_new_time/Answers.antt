@@ -1,9 +1,18 @@
 -- `evt3::put::put_new_time` meets its contract.
-use Rattle.evt3.proofs.PutSteps.{time_put}
+use Rattle.evt3.proofs.PutSteps.{high_part_fits, low_fits, time_put}
 use Rattle.evt3.proofs.put.put_new_time.Goals as goal
 
-pub returns : goal.returns
-returns c =
+pub put_high-to-requires : goal.put_high-to-requires
+put_high-to-requires g c =
     let a = c.args in
-    time_put a.told a.time a.out.now a.at c.wraps_between-wraps.ensures c.requires
-    c.put_high-to.ensures c.put_word.ensures
+    high_part_fits _ a.told.timed a.told.time a.time a.out.now a.at c.saturating_sub-wraps.ensures c.requires
+
+pub word-requires : goal.word-requires
+word-requires g c =
+    let a = c.args in
+    low_fits _ a.told.timed a.told.time a.time a.out.now a.at c.saturating_sub-wraps.ensures c.requires c.put_high-to.ensures
+
+pub returns : goal.returns
+returns g c =
+    let a = c.args in
+    time_put _ a.told.timed a.told.time a.time a.out.now a.at c.saturating_sub-wraps.ensures c.requires c.put_high-to.ensures c.word.ensures

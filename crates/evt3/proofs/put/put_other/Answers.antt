@@ -1,33 +1,39 @@
 -- `evt3::put::put_other` meets its contract.
 use Rattle.evt3.proofs.PutSteps.{span_fits, time_fits, own_fits, own_put, other_words_lem}
 use Rattle.evt3.proofs.OtherRows.{no_other}
-use Rattle.words.proofs.Writes.{put_none}
+use Rattle.evt3.proofs.Sinks.{put_none}
 use mathlib.Core.Path.{refl, sym, ◌∙◌}
+use native.Mathlib.Omega.{arith}
 use Rattle.evt3.proofs.put.put_other.Goals as goal
 
 pub put_span-spanned-requires : goal.put_span-spanned-requires
-put_span-spanned-requires c =
-    span_fits c.args.told c.args.span c.args.time _ _ c.args.out.now c.args.at (other_words_lem c.args.told c.args.span c.args.time c.args.row refl) c.requires
+put_span-spanned-requires g c =
+    let a = c.args in
+    span_fits _ _ _ _ _ _ _ _ _ (other_words_lem a.told a.span a.time a.row refl) c.requires
 
 pub put_time-timed-requires : goal.put_time-timed-requires
-put_time-timed-requires c =
-    time_fits c.args.told c.args.span c.args.time _ _ c.args.out.now c.args.at (other_words_lem c.args.told c.args.span c.args.time c.args.row refl) c.requires
-    c.put_span-spanned.ensures
+put_time-timed-requires g c =
+    let a = c.args in
+    time_fits _ _ _ _ _ _ _ _ _ (other_words_lem a.told a.span a.time a.row refl) c.requires c.put_span-spanned.ensures
 
-pub put_word-requires : goal.put_word-requires
-put_word-requires c =
-    own_fits c.args.told c.args.span c.args.time _ _ c.args.out.now c.args.at
-    (other_words_lem c.args.told c.args.span c.args.time c.args.row (sym c.of-kind.ensures ∙ c.in-Trigger.is))
-    c.requires c.put_span-spanned.ensures c.put_time-timed.ensures
+pub word-requires : goal.word-requires
+word-requires g c =
+    let a = c.args in
+    omega (
+      arith,
+      own_fits _ _ _ _ _ _ _ _ _ (other_words_lem a.told a.span a.time a.row (sym c.from.ensures ∙ c.in-Trigger.is)) c.requires
+          c.put_span-spanned.ensures c.put_time-timed.ensures,
+    )
 
 pub returns-in-Trigger : goal.returns-in-Trigger
-returns-in-Trigger c =
-    own_put c.args.told c.args.span c.args.time _ _ c.args.out.now c.args.at
-    (other_words_lem c.args.told c.args.span c.args.time c.args.row (sym c.of-kind.ensures ∙ c.in-Trigger.is))
-    c.requires c.put_span-spanned.ensures c.put_time-timed.ensures c.put_word.ensures
+returns-in-Trigger g c =
+    let a = c.args in
+    own_put _ _ _ _ _ _ _ _ _ (other_words_lem a.told a.span a.time a.row (sym c.from.ensures ∙ c.in-Trigger.is)) c.requires
+    c.put_span-spanned.ensures c.put_time-timed.ensures c.word.ensures
 
 pub returns-in_default : goal.returns-in_default
-returns-in_default c =
-    own_put c.args.told c.args.span c.args.time _ _ c.args.out.now c.args.at
-    (other_words_lem c.args.told c.args.span c.args.time c.args.row (sym c.of-kind.ensures))
-    c.requires c.put_span-spanned.ensures c.put_time-timed.ensures (rw (no_other c.of-kind.result c.args.row c.in_default.not-Trigger) (put_none _ _ _))
+returns-in_default g c =
+    let a = c.args in
+    own_put _ _ _ _ _ _ _ _ _ (other_words_lem a.told a.span a.time a.row (sym c.from.ensures)) c.requires
+    c.put_span-spanned.ensures c.put_time-timed.ensures
+    (rw (no_other c.from.result a.row c.in_default.not-Trigger) (put_none _ _ _))

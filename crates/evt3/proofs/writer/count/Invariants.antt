@@ -5,7 +5,7 @@ use Prim.Native.Nat.{◌-◌}
 use Rattle.evt3.proofs.writer.count.Given as goal
 
 abbrev pub invariant-loop-row : goal.invariant-loop-row
-invariant-loop-row l = Counts l.rows l.words l.told l.span l.i
+invariant-loop-row l = Counts l.rows l.words l.standing l.i
 
 abbrev pub decreases-loop-row : goal.decreases-loop-row
 decreases-loop-row l = room_of l.rows - l.i

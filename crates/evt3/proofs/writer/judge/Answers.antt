@@ -14,16 +14,16 @@ pub returns-in-Pixel : goal.returns-in-Pixel
 unfolding writable
 returns-in-Pixel c =
     let a = c.args in
-    c.judge.ensures ∙ judged_kind writable_as a.row a.last (sym c.of-kind.ensures ∙ c.in-Pixel.is) refl
+    c.judge.ensures ∙ judged_kind writable_as a.row a.last (sym c.from.ensures ∙ c.in-Pixel.is) refl
 
 pub returns-in-Trigger : goal.returns-in-Trigger
 unfolding writable
 returns-in-Trigger c =
     let a = c.args in
-    c.judge-in-Trigger.ensures ∙ judged_kind writable_as a.row a.last (sym c.of-kind.ensures ∙ c.in-Trigger.is) refl
+    c.judge-in-Trigger.ensures ∙ judged_kind writable_as a.row a.last (sym c.from.ensures ∙ c.in-Trigger.is) refl
 
 pub returns-in_default : goal.returns-in_default
 unfolding writable
 returns-in_default c =
     let a = c.args in
-    judged_wordless writable_as a.row a.last (sym c.of-kind.ensures) (not_writable c.of-kind.result a.row c.in_default.not-Pixel c.in_default.not-Trigger)
+    judged_wordless writable_as a.row a.last (sym c.from.ensures) (not_writable c.from.result a.row c.in_default.not-Pixel c.in_default.not-Trigger)

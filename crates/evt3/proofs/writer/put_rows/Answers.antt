@@ -1,88 +1,37 @@
 -- `evt3::writer::put_rows` meets its contract.
-use Rattle.evt3.proofs.RowSteps.{Adds, adds_held, adds_further, adds_first, adds_other, adds_fit}
-use Rattle.evt3.proofs.RowSteps.{Puts, puts_start, close_fits, puts_done, puts_next}
-use Rattle.evt3.specs.declared.span.Span.{Span}
-use Rattle.evt3.specs.declared.told.Told.{Told}
-use Rattle.words.specs.Writer.{PutWords}
-use Rattle.words.proofs.Writes.{put_none}
-use Rattle.rows.proofs.Lists.{row_found, row_past}
+use Rattle.evt3.proofs.RowSteps.{none_found, wrote_start, row_fits_lem, wrote_next, close_fits, wrote_all}
+use Rattle.rows.proofs.Lists.{row_found}
 use Rattle.rows.specs.Row.{room_of, row_from}
-use mathlib.Core.List.{List}
-use Prim.Native.Nat.{ℕ, ◌+◌, ◌*◌, ◌≤◌, ◌<◌}
-use lib.ListN.{length}
-use mathlib.Core.Path.{◌≡◌, refl, sym, ◌∙◌}
+use Prim.Native.Nat.{◌*◌, ◌<◌, ◌≤◌}
+use native.Mathlib.Omega.{arith}
+use mathlib.Core.Path.{◌≡◌, sym, ◌∙◌}
 use Rattle.evt3.proofs.writer.put_rows.Goals as goal
-use Rattle.evt3.proofs.writer.put_rows.Goals.{In-Found, In-Nothing}
+use Rattle.evt3.proofs.writer.put_rows.Goals.{In-Some, In_default}
 
-past : (d : In-Nothing) → room_of d.args.rows.now ≤ d.loop-out.done
-past d = row_past d.args.rows.now d.loop-out.done (sym d.in-Nothing.is ∙ d.get-found.ensures)
+here : (d : In-Some) → (d.loop-row.done < room_of d.args.rows.now) × (d.in-Some.row ≡ row_from d.args.rows.now (d.loop-row.done * 10))
+here d = row_found d.args.rows.now d.loop-row.done (sym d.in-Some.is ∙ d.get.ensures)
 
-here : (d : In-Found) → (d.loop-out.done < room_of d.args.rows.now) × (d.in-Found.row ≡ row_from d.args.rows.now (d.loop-out.done * 10))
-here d = row_found d.args.rows.now d.loop-out.done (sym d.in-Found.is ∙ d.get-found.ensures)
+past : (d : In_default) → room_of d.args.rows.now ≤ d.loop-row.done
+past d = none_found d.args.rows.now d.loop-row.done d.get.ensures d.in_default.not-Some
 
--- what the row adds fits, and the invariant holds after it is put
-abbrev Adding : In-Found → List ℕ → Told → Span → Type 0
-Adding d ws told next = Adds d.loop-out.told d.loop-out.span d.in-Found.row ws told next
+pub loop-row-init : goal.loop-row-init
+loop-row-init c = rw c.start-standing.ensures (wrote_start _ _ c.requires.passed)
 
-fits : (d : In-Found) {ws : List ℕ} {told : Told} {next : Span} → Adding d ws told next
-    → d.loop-out.at + length ws * 2 ≤ length d.loop-out.out
-fits d = adds_fit d.loop-out.invariant d.requires.fits (here d).0 (here d).1
+pub put_row-at-requires : goal.put_row-at-requires
+put_row-at-requires c =
+    let d = (goal.at.put_row-at-requires c).In-Some in
+    row_fits_lem c.loop-row.invariant c.requires.fits (here d).0 (here d).1
 
-after-row : (d : In-Found) {ws : List ℕ} {told : Told} {next : Span} → Adding d ws told next → {at : ℕ} {out : List ℕ}
-    → PutWords 2 ws d.loop-out.out d.loop-out.at out at
-    → Puts d.args.rows.now d.args.out.now at told next (d.loop-out.done + 1) out
-after-row d = puts_next d.loop-out.invariant d.requires.fits (here d).0 (here d).1
+pub loop-row-smaller : goal.loop-row-smaller
+loop-row-smaller c = let d = (goal.at.loop-row-smaller c).In-Some in omega (arith, (here d).0)
 
-pub loop-out-init : goal.loop-out-init
-loop-out-init c = rw (c.nothing-told.ensures, c.none-span.ensures) (puts_start _ _ c.requires.passed)
+pub loop-row-preserved : goal.loop-row-preserved
+loop-row-preserved c =
+    let d = (goal.at.loop-row-preserved c).In-Some in
+    wrote_next c.loop-row.invariant c.requires.fits (here d).0 (here d).1 c.put_row-at.ensures.put c.put_row-at.ensures.next
 
 pub put_span-requires : goal.put_span-requires
-put_span-requires c =
-    close_fits c.loop-out.invariant c.requires.fits (past (goal.at.put_span-requires c).In-Nothing)
+put_span-requires c = close_fits c.loop-row.invariant c.requires.fits (past (goal.at.put_span-requires c).In_default)
 
-pub returns-in-Nothing : goal.returns-in-Nothing
-returns-in-Nothing c =
-    (puts_done c.loop-out.invariant c.requires.fits (past (goal.at.returns-in-Nothing c).In-Nothing) c.put_span.ensures).wrote
-
-pub loop-out-preserved-then-holds : goal.loop-out-preserved-then-holds
-loop-out-preserved-then-holds c =
-    after-row (goal.at.loop-out-preserved-then-holds c).In-Found
-    (adds_held c.loop-out.told c.loop-out.span c.in-Found.row c.if-row-eq1.true (sym c.joins.ensures ∙ c.if-joins.true)
-    (sym c.holds.ensures ∙ c.if-holds.true) c.with-span.ensures)
-    (put_none _ _ _)
-
-pub put_span-at-requires : goal.put_span-at-requires
-put_span-at-requires c =
-    fits (goal.at.put_span-at-requires c).In-Found
-    (adds_further c.loop-out.told c.loop-out.span c.in-Found.row c.if-row-eq1.true (sym c.joins.ensures ∙ c.if-joins.true)
-    (sym c.holds.ensures ∙ c.if-holds.false) refl)
-
-pub loop-out-preserved-then-joins : goal.loop-out-preserved-then-joins
-loop-out-preserved-then-joins c =
-    after-row (goal.at.loop-out-preserved-then-joins c).In-Found
-    (adds_further c.loop-out.told c.loop-out.span c.in-Found.row c.if-row-eq1.true (sym c.joins.ensures ∙ c.if-joins.true)
-    (sym c.holds.ensures ∙ c.if-holds.false) c.next-span.ensures)
-    c.put_span-at.ensures
-
-pub put_start-at-requires : goal.put_start-at-requires
-put_start-at-requires c =
-    fits (goal.at.put_start-at-requires c).In-Found
-    (adds_first c.loop-out.told c.loop-out.span c.in-Found.row c.if-row-eq1.true (sym c.joins.ensures ∙ c.if-joins.false)
-    c.time-time.ensures refl refl)
-
-pub loop-out-preserved-then-row-eq1 : goal.loop-out-preserved-then-row-eq1
-loop-out-preserved-then-row-eq1 c =
-    after-row (goal.at.loop-out-preserved-then-row-eq1 c).In-Found
-    (adds_first c.loop-out.told c.loop-out.span c.in-Found.row c.if-row-eq1.true (sym c.joins.ensures ∙ c.if-joins.false)
-    c.time-time.ensures c.first-span.ensures c.line-told.ensures)
-    c.put_start-at.ensures
-
-pub put_other-at-requires : goal.put_other-at-requires
-put_other-at-requires c =
-    fits (goal.at.put_other-at-requires c).In-Found (adds_other c.loop-out.told c.loop-out.span c.in-Found.row c.if-row-eq1.false c.time-time.ensures refl refl)
-
-pub loop-out-preserved : goal.loop-out-preserved
-loop-out-preserved c =
-    after-row (goal.at.loop-out-preserved c).In-Found
-    (adds_other c.loop-out.told c.loop-out.span c.in-Found.row c.if-row-eq1.false c.time-time.ensures c.none-span-in-Found.ensures c.with_time-told.ensures)
-    c.put_other-at.ensures
+pub returns : goal.returns
+returns c = (wrote_all c.loop-row.invariant c.requires.fits (past (goal.at.returns c).In_default) c.put_span.ensures).wrote

@@ -7,7 +7,7 @@ use mathlib.Core.List.{List, [], ◌∷◌, ◌++◌, append_assoc, append-nil}
 use lib.ListN.{length, length-append}
 use Rattle.words.specs.Writer.{PutWords}
 use Rattle.words.proofs.Writes as words
-use Rattle.evt3.specs.Sinks.{room, after, Put}
+use Rattle.evt3.specs.Sinks.{room, Put}
 
 -- what is written, as the words' own promise says it
 pub written : {ws old new : List ℕ} {at r : ℕ} → Put true ws old at new r → PutWords 2 ws old (2 * at) new (2 * r)

@@ -8,99 +8,60 @@ ghost use Rattle.evt3.specs.Reader.{machine, reading_of};
 
 use crate::kind::Kind;
 use crate::state::State;
-use rows::{Fault, Reading};
-use words::{Admission, Gave, Next, Picture};
+use rows::{Fault, ReadError};
+use words::{Picture, Stop};
 
 // Reads the words of an input that is admitted.
-fn read_words(bytes: &[u8], picture: Picture, rows: &mut [u32]) -> Reading
+fn read_words(bytes: &[u8], picture: Picture, rows: &mut [u32]) -> Result<usize, ReadError>
     ensures { ReadAs (read_from (machine picture) bytes.now fresh 0 (room_of rows.old)) rows.old rows.new result }
 {
     let mut state = State::fresh();
     let mut at: usize = 0;
     let mut n: usize = 0;
-    loop {
-        let next = words::first16(&bytes[at..]);
-        match next {
-            Next::End => {
-                return Reading::Finished { rows: n };
-            }
-            Next::Part => {
-                return Reading::Refused {
-                    fault: Fault::Cut,
+    while let Some(next) = words::first::<u16>(&bytes[at..]) {
+        let w = match next {
+            Ok(w) => w,
+            Err(fault) => {
+                return Err(ReadError {
+                    fault,
                     rows: n,
                     place: at,
-                };
+                });
             }
-            Next::Word(w) => {
-                let kind = Kind::of(w);
-                let gave = state.give(kind, picture, w, rows, n);
-                match gave {
-                    Gave::Full => {
-                        return Reading::Refused {
-                            fault: Fault::NoRoom,
-                            rows: n,
-                            place: at,
-                        };
-                    }
-                    Gave::Refused(fault) => {
-                        return Reading::Refused {
-                            fault,
-                            rows: n,
-                            place: at,
-                        };
-                    }
-                    Gave::Rows(count) => {
-                        n = count;
-                        at += 2;
-                        match kind {
-                            Kind::AddrY => {
-                                state = state.addr_y(w);
-                                continue;
-                            }
-                            Kind::VectBaseX => {
-                                state = state.vect_base_x(w);
-                                continue;
-                            }
-                            Kind::Vect12 => {
-                                state = state.vect_12(w);
-                                continue;
-                            }
-                            Kind::Vect8 => {
-                                state = state.vect_8(w);
-                                continue;
-                            }
-                            Kind::TimeLow => {
-                                state = state.time_low(w);
-                                continue;
-                            }
-                            Kind::TimeHigh => {
-                                state = state.time_high(w);
-                                continue;
-                            }
-                            // the other kinds set nothing: ADDR_X does not move the base
-                            _ => {
-                                continue;
-                            }
-                        }
-                    }
-                }
+        };
+        let kind = Kind::from(w);
+        match state.give(kind, picture, w, rows, n) {
+            Ok(count) => n = count,
+            Err(Stop::Full) => {
+                return Err(ReadError {
+                    fault: Fault::NoRoom,
+                    rows: n,
+                    place: at,
+                });
+            }
+            Err(Stop::Refused(fault)) => {
+                return Err(ReadError {
+                    fault,
+                    rows: n,
+                    place: at,
+                });
             }
         }
+        state = state.after(kind, w);
+        at += 2;
     }
+    Ok(n)
 }
 
 // Reads EVT3 words of a picture of `width` by `height` into rows.
-pub fn read(bytes: &[u8], width: u32, height: u32, rows: &mut [u32]) -> Reading
+pub fn read(bytes: &[u8], width: u32, height: u32, rows: &mut [u32]) -> Result<usize, ReadError>
     ensures { ReadAs (reading_of (picture_of width height) bytes.now (room_of rows.old)) rows.old rows.new result }
 {
     let picture = Picture { width, height };
-    let admission = words::admit(bytes, picture);
-    match admission {
-        Admission::Refused(fault) => Reading::Refused {
-            fault,
-            rows: 0,
-            place: 0,
-        },
-        Admission::Admitted => read_words(bytes, picture, rows),
-    }
+    words::admit(bytes, picture).map_err(|fault| ReadError {
+        fault,
+        rows: 0,
+        place: 0,
+    })?;
+    read_words(bytes, picture, rows)
 }

@@ -1,10 +1,13 @@
 // What a reader knows between words, and what each kind of word does with it.
 ghost use Rattle.std.specs.Prelude.{◌≡◌, ◌<◌, ◌%◌, ◌/◌};
 ghost use Rattle.evt3.specs.State.{fresh, with_high, with_y, with_base, moved};
-ghost use Rattle.evt3.specs.Words.{drop_to, is_wrap, wraps_at, goes_back, bad_high, with_low};
+ghost use Rattle.evt3.specs.declared.kind.Kind.TheVariants.{TimeHigh};
+ghost use Rattle.evt3.specs.Words.{drop_to, is_wrap, wraps_at, goes_back, bad_high, with_low, next_as};
 
-// Which parts of the state are known.
-#[derive(Clone, Copy)]
+use crate::kind::Kind;
+
+// Which parts of the state are known. Flags beside their values: as Options the same loop was tried, and single pixels took 1.1 to 1.2 times as long.
+#[derive(Clone, Copy, Debug, PartialEq, Eq)]
 pub struct Known {
     pub high: bool,
     pub time: bool,
@@ -13,7 +16,7 @@ pub struct Known {
 }
 
 // What a reader knows between words. The order leaves no gaps between the fields: gaps would be copied with the state.
-#[derive(Clone, Copy)]
+#[derive(Clone, Copy, Debug, PartialEq, Eq)]
 pub struct State {
     // Microseconds.
     pub time: u64,
@@ -54,18 +57,18 @@ impl State {
     }
 
     // By how much a high part drops below the known one.
+    #[tactic(auto, unfolding(crate::specs::Words::drop_to))]
     fn drop_to(self, high: u16) -> u16
         ensures { result ≡ drop_to self high }
     {
         if self.known.high {
-            if high < self.high {
-                return self.high - high;
-            }
+            return self.high.saturating_sub(high);
         }
         0
     }
 
     // Whether a high part is a wrap of the clock.
+    #[tactic(auto, unfolding(crate::specs::Words::is_wrap))]
     fn is_wrap(self, high: u16) -> bool
         ensures { result ≡ is_wrap self high }
     {
@@ -73,6 +76,7 @@ impl State {
     }
 
     // The wrap count that a high part leads to.
+    #[tactic(auto, unfolding(crate::specs::Words::wraps_at))]
     fn wraps_at(self, high: u16) -> u64
         ensures { result ≡ wraps_at self high }
     {
@@ -84,6 +88,7 @@ impl State {
     }
 
     // Whether a high part takes the clock back.
+    #[tactic(auto, unfolding(crate::specs::Words::goes_back))]
     fn goes_back(self, high: u16) -> bool
         ensures { result ≡ goes_back self high }
     {
@@ -91,6 +96,7 @@ impl State {
     }
 
     // Whether EVT_TIME_HIGH is refused: the clock goes back, or would come to the wrap count 1,024.
+    #[tactic(auto, unfolding(crate::specs::Words::bad_high))]
     pub(crate) fn bad_high(self, w: u64) -> bool
         ensures { result ≡ bad_high self (w % 4096) }
     {
@@ -99,7 +105,7 @@ impl State {
     }
 
     // EVT_TIME_HIGH: the high part, and not the time.
-    pub(crate) fn time_high(mut self, w: u64) -> State
+    fn time_high(mut self, w: u64) -> State
         requires { wraps_at self (w % 4096) < 1024 }
         ensures { result ≡ with_high self (w % 4096) (wraps_at self (w % 4096)) }
     {
@@ -111,7 +117,8 @@ impl State {
     }
 
     // EVT_TIME_LOW: the time, if a high part is known.
-    pub(crate) fn time_low(mut self, w: u64) -> State
+    #[tactic(auto, unfolding(crate::specs::Words::with_low))]
+    fn time_low(mut self, w: u64) -> State
         ensures { result ≡ with_low self (w % 4096) }
     {
         if self.known.high {
@@ -122,7 +129,7 @@ impl State {
     }
 
     // EVT_ADDR_Y: the line and its camera.
-    pub(crate) fn addr_y(mut self, w: u64) -> State
+    fn addr_y(mut self, w: u64) -> State
         ensures { result ≡ with_y self (w % 2048) (w / 2048 % 2) }
     {
         self.y = (w % 2048) as u16;
@@ -142,13 +149,13 @@ impl State {
     }
 
     // VECT_BASE_X: the base and its polarity, no event.
-    pub(crate) fn vect_base_x(self, w: u64) -> State
+    fn vect_base_x(self, w: u64) -> State
         ensures { result ≡ with_base self (w % 2048) (w / 2048 % 2) }
     {
         self.with_base((w % 2048) as u16, (w / 2048 % 2) as u8)
     }
 
-    // After a vector of n columns: a known base moves on, and stops at 2,048.
+    // VECT_12 and VECT_8, whatever their bits are: after n columns a known base moves on, and stops at 2,048.
     #[tactic(auto, unfolding(crate::specs::State::moved))]
     fn moved(self, n: u16) -> State
         ensures { result ≡ moved n self }
@@ -162,18 +169,24 @@ impl State {
         }
         self
     }
-
-    // VECT_12, whatever its bits are.
-    pub(crate) fn vect_12(self, _w: u64) -> State
-        ensures { result ≡ moved 12 self }
+    // The state after a word of a kind that is not refused. ADDR_X does not move the base.
+    pub(crate) fn after(self, kind: Kind, w: u64) -> State
+        requires { kind ≡ TimeHigh → wraps_at self (w % 4096) < 1024 }
+        ensures { result ≡ next_as kind self w }
     {
-        self.moved(12)
-    }
-
-    // VECT_8, whatever its bits are.
-    pub(crate) fn vect_8(self, _w: u64) -> State
-        ensures { result ≡ moved 8 self }
-    {
-        self.moved(8)
+        match kind {
+            Kind::AddrY => self.addr_y(w),
+            Kind::VectBaseX => self.vect_base_x(w),
+            Kind::Vect12 => self.moved(12),
+            Kind::Vect8 => self.moved(8),
+            Kind::TimeLow => self.time_low(w),
+            Kind::TimeHigh => self.time_high(w),
+            Kind::AddrX
+            | Kind::ExtTrigger
+            | Kind::Continued4
+            | Kind::Others
+            | Kind::Continued12
+            | Kind::Reserved => self,
+        }
     }
 }

@@ -8,9 +8,9 @@ use Rattle.evt3.specs.State.{fresh}
 use Rattle.evt3.specs.Reader.{machine}
 use Rattle.evt3.proofs.reader.read_words.Given as goal
 
-abbrev pub invariant-loop-w : goal.invariant-loop-w
-invariant-loop-w l =
+abbrev pub invariant-loop-next : goal.invariant-loop-next
+invariant-loop-next l =
     Between (machine l.picture) l.bytes (read_from (machine l.picture) l.bytes fresh 0 (room_of l.initial.rows)) l.initial.rows 0 l.state l.at l.n l.rows
 
-abbrev pub decreases-loop-w : goal.decreases-loop-w
-decreases-loop-w l = length l.bytes - l.at
+abbrev pub decreases-loop-next : goal.decreases-loop-next
+decreases-loop-next l = length l.bytes - l.at

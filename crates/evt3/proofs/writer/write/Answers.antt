@@ -5,7 +5,7 @@ use Rattle.rows.specs.declared.fault.WriteError.{WriteError}
 use Rattle.std.specs.Prelude.{Result, Ok, Err, IsErrAnd}
 use Prim.Native.Nat.{ℕ}
 use native.Mathlib.Omega.{arith}
-use mathlib.Core.Path.{◌≡◌, sym, ◌∙◌, ap, subst}
+use mathlib.Core.Path.{◌≡◌, sym, ◌∙◌, ap}
 use Rattle.evt3.proofs.writer.write.Goals as goal
 
 err_is : (r : Result ℕ WriteError) {e : WriteError} → IsErrAnd r (λ x. x ≡ e) → r ≡ Err e

@@ -2,4 +2,3 @@
 pub mod GoodRead
 pub mod Kept
 pub mod Places
-pub mod Steps

@@ -7,7 +7,7 @@ use crate::state::State;
 use words::{Picture, Reader, Stop};
 
 // Events of a picture.
-#[derive(Clone, Copy)]
+#[derive(Clone, Copy, Debug, PartialEq, Eq)]
 pub(crate) struct Events {
     pub picture: Picture,
 }
@@ -33,6 +33,7 @@ impl Reader for Events {
 
     fn kind(&self, _state: State, _w: u64) {}
 
+    #[tactic(auto, using(words::proofs::Wrote::gave_onto), unfolding(crate::specs::Words::step))]
     fn give(
         &self,
         state: State,
@@ -44,6 +45,7 @@ impl Reader for Events {
         state.give(self.picture, w, rows, n)
     }
 
+    #[tactic(auto, unfolding(crate::specs::Words::step, crate::specs::Words::event_of))]
     fn next(&self, state: State, _kind: (), _place: usize, w: u64) -> Option<State> {
         Some(state.event(w))
     }

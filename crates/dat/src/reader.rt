@@ -9,6 +9,7 @@ use rows::{Fault, ReadError};
 use words::Picture;
 
 // Reads what follows the header: bytes 0 and 8, and the events.
+#[tactic(auto, using(rows::proofs::Sofar::reads_refused), unfolding(crate::specs::Reader::after_type_and_size))]
 fn read_data(
     bytes: &[u8],
     at: usize,

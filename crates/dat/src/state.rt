@@ -31,6 +31,7 @@ impl State {
     }
 
     // What an event gives: one pixel, if there is room, or its refusal.
+    #[tactic(auto, using(words::proofs::Wrote::gave_refused, words::proofs::Wrote::gave_row), unfolding(crate::specs::Words::event_of))]
     pub(crate) fn give(
         self,
         picture: Picture,

@@ -11,10 +11,12 @@ pub mod Places
 pub mod ReadBack
 pub mod Returned
 pub mod RowsGiven
+pub mod Sinks
 pub mod Stepped
 pub mod TwoParts
 pub mod Walks
 pub mod WordByWord
+pub mod Writers
 pub mod Writes
 pub mod Writings
 pub mod Wrote

@@ -3,7 +3,7 @@ use mathlib.Core.Path.{◌≡◌, sym, ◌∙◌, ap, subst}
 use Prim.Native.Nat.{ℕ, ◌+◌, ◌*◌, ◌≤◌, ◌<◌}
 use native.Mathlib.Omega.{arith}
 use mathlib.Core.Bool.{Bool}
-use mathlib.Core.List.{List, [], ◌∷◌, ◌++◌}
+use mathlib.Core.List.{List, ◌∷◌, ◌++◌}
 use lib.ListN.{length, length-append}
 use Rattle.std.specs.Prelude.{Ok, Err}
 use Rattle.rows.specs.declared.fault.Fault.{Fault}
@@ -12,19 +12,9 @@ use Rattle.rows.specs.Row.{room_of, row_from, rows_of}
 use Rattle.rows.specs.Rules.{accepted, refused, judged_of, verdict_from}
 use Rattle.rows.proofs.Judging.{Judging, judging_start, judging_done, judging_next, judging_refused}
 use Rattle.rows.proofs.Lists.{rest, rest_none, rest_more, rest_all}
+pub use Rattle.words.specs.Writer.{Walk, walked}
 use Rattle.words.specs.Writer.{PutWords}
 use Rattle.words.proofs.Writes.{Writes, writes_start, writes_length, writes_fit, writes_more}
-
--- the words that a row adds where a writer stands, where it stands then, and the words that are left after the last row
-pub record Walk (W : Type 0) : Type 0 where
-  pub words : W → Row → List ℕ
-  pub next : W → Row → W
-  pub close : W → List ℕ
-
--- all the words of rows
-abbrev pub walked : {W : Type 0} → Walk W → W → List Row → List ℕ
-walked k w [] = k.close w
-walked k w (r ∷ rs) = k.words w r ++ walked k (k.next w r) rs
 
 module _ {W : Type 0} (k : Walk W) where
   -- those from row i on: the last ones, or row i's and those after it

@@ -4,6 +4,7 @@ pub mod Machine
 pub mod Picture
 pub mod Promises
 pub mod RoundTrip
+pub mod Sinks
 pub mod Words
 pub mod Writer
 pub mod Written

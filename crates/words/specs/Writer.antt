@@ -1,13 +1,13 @@
 -- Writers of words, over any format: what a list of rows is written as, and what is refused. 01, "Refusal numbers" and "Spelling".
-use Rattle.std.specs.Prelude.{◌≡◌, ℕ, ◌+◌, ◌*◌, Bool, cond, List, length, leb, Result, Ok, Err}
+use Rattle.std.specs.Prelude.{◌≡◌, ℕ, ◌+◌, ◌*◌, ◌≤◌, ◌<◌, Bool, cond, List, [], ◌∷◌, ◌++◌, length, leb, Result, Ok, Err}
 use Rattle.std.proofs.lemmas.List.Edits.{sets}
 use Rattle.rows.specs.declared.fault.Fault.TheVariants.{NoRoom}
 use Rattle.rows.specs.declared.fault.WriteError.{WriteError}
 use Rattle.rows.specs.declared.fault.WritingNumbers.{WritingNumbers}
 use Rattle.rows.specs.declared.row.Row.{Row}
 use Rattle.rows.specs.Fault.{writing_numbers}
-use Rattle.rows.specs.Row.{over, rows_of}
-use Rattle.rows.specs.Rules.{Verdict, accepted, refused, verdict_of}
+use Rattle.rows.specs.Row.{over, time_of, rows_of}
+use Rattle.rows.specs.Rules.{Verdict, accepted, refused, verdict_from, verdict_of}
 use Rattle.words.specs.Words.{bytes_of_all}
 
 -- a format that is written: the bytes of a word, the good rows that it has words for, and the words of rows ("spelling" is 01's term)
@@ -57,3 +57,25 @@ pub record WroteNumbers (s : Spelling) (l old new : List ℕ) (r : WritingNumber
 pub record PutWords (size : ℕ) (ws : List ℕ) (old : List ℕ) (at : ℕ) (new : List ℕ) (r : ℕ) : Type 0 where
   pub place : r ≡ at + length ws * size
   pub wrote : new ≡ sets old at (bytes_of_all size ws)
+
+-- a writer that goes over rows one by one: the words that a row adds where it stands, where it stands then, and the words that are left after the last row
+pub record Walk (W : Type 0) : Type 0 where
+  pub words : W → Row → List ℕ
+  pub next : W → Row → W
+  pub close : W → List ℕ
+
+-- all the words of rows
+abbrev pub walked : {W : Type 0} → Walk W → W → List Row → List ℕ
+walked k w [] = k.close w
+walked k w (r ∷ rs) = k.words w r ++ walked k (k.next w r) rs
+
+-- what such a writer is to show of a format, where `last` is the time of the row before: the rows of a list that passes add the words of its
+-- spelling; and few words a row, so that no count of them is too large: some are paid for by time that has gone by
+pub record Spells {W : Type 0} (s : Spelling) (k : Walk W) (start : W) (last : W → ℕ) : Type 0 where
+  pub spells : (rs : List Row) → verdict_from s.writable rs 0 0 ≡ accepted → walked k start rs ≡ s.words rs
+  pub begins : last start ≡ 0
+  pub goes : (w : W) (r : Row) → last (k.next w r) ≡ time_of r
+  pub paid : ℕ → ℕ
+  pub short : (w : W) (r : Row) → last w ≤ time_of r → length (k.words w r) + paid (last w) ≤ 16 + paid (time_of r)
+  pub cheap : (t : ℕ) → t < 17179869184 → paid t ≤ 65536
+  pub closes : (w : W) → length (k.close w) ≤ 16

@@ -9,6 +9,7 @@
 //     put_word::<W>(out, at, n)     a number stored as a word
 //     Reader, read_words            a format that is read, and the loop that reads it
 //     Writer, write                 a format that is written, and the function that writes it
+//     Sink, Written, Counted        where its words go: into a slice, or nowhere, where they are counted alone
 //     give(rows, n, row)            a word's row into a lent slice, after the n that are there
 //     Stop                          why a word's rows were not written
 //     admit(bytes, picture)         refusals 1 and 14, which come before the first word
@@ -25,11 +26,13 @@ use rows::{Fault, Row};
 
 mod picture;
 mod reader;
+mod sink;
 mod word;
 mod writer;
 
 pub use picture::{Picture, admit};
 pub use reader::{Reader, read_words};
+pub use sink::{Counted, Sink, Written};
 pub use word::{Word, first, put_word};
 pub use writer::{Writer, write};
 

@@ -1,33 +1,87 @@
 // The writer of every format of words: a list is judged and its words are counted, and then they are written.
-ghost use Rattle.std.specs.Prelude.{◌≡◌, ◌*◌, ◌≤◌, length};
+ghost use Rattle.std.specs.Prelude.{◌≡◌, ℕ, ◌+◌, ◌*◌, ◌≤◌, length};
 ghost use Rattle.std.proofs.lemmas.List.Edits.{sets};
 ghost use Rattle.rows.specs.Row.{rows_of};
-ghost use Rattle.rows.specs.Rules.{accepted, verdict_from};
+ghost use Rattle.rows.specs.Rules.{accepted, judged_of, verdict_from};
+ghost use Rattle.words.specs.Sinks.{room, Put};
 ghost use Rattle.words.specs.Words.{bytes_of_all};
-ghost use Rattle.words.specs.Writer.{Spelling, spelled, writing_of, WroteAs};
+ghost use Rattle.words.specs.Writer.{Spelling, spelled, writing_of, WroteAs, Walk, Spells};
 
+use crate::sink::{Counted, Sink, Written};
 use crate::word::Word;
-use rows::{Fault, WriteError};
+use rows::{Fault, Row, WriteError};
 
-// A format that rows are written in.
+// A format that rows are written in, one after the other.
 pub trait Writer {
     type Word: Word;
+    // Where a writer stands between two rows.
+    type Standing: Copy;
 
-    // What a list is written as.
+    // What a list is written as, what a row adds where the writer stands, where it stands before the first row, and the time of the row before.
     ghost spelling: { Spelling };
 
-    // Judges the rows of a list one after the other, and counts their words.
-    fn count(rows: &[u32]) -> Result<usize, WriteError>
-        ensures { result ≡ writing_of (verdict_from spelling.writable (rows_of rows.now) 0 0) (length (spelled spelling rows.now)) };
+    ghost walk: { Walk Self.Standing };
 
-    // Writes the words of a list that was judged, into a slice that they fit.
-    fn put(rows: &[u32], out: &mut [u8])
-        requires passed { verdict_from spelling.writable (rows_of rows.now) 0 0 ≡ accepted }
-        requires fits { length (spelled spelling rows.now) * Self.Word.SIZE ≤ length out.old }
-        ensures { out.new ≡ sets out.old 0 (bytes_of_all Self.Word.SIZE (spelled spelling rows.now)) };
+    ghost begin: { Self.Standing };
 
-    // Its words have the size of the type.
+    ghost last: { Self.Standing → ℕ };
+
+    fn start() -> Self::Standing
+        ensures { result ≡ begin };
+
+    // Judges the next row: 12 where it is bad or the format has no words for it, then 5.
+    fn judge(standing: Self::Standing, row: Row) -> Result<u64, Fault>
+        ensures { result ≡ judged_of (spelling.writable row) row (last standing) };
+
+    // What a row adds, put into a sink from word `at` on. It answers the place after it.
+    fn put<S: Sink>(out: &mut [u8], at: usize, standing: &mut Self::Standing, row: Row) -> usize
+        requires { at + length (walk.words standing.old row) ≤ room S.writes Self.Word.SIZE out.old }
+        ensures put { Put S.writes Self.Word.SIZE (walk.words standing.old row) out.old at out.new result }
+        ensures next { standing.new ≡ walk.next standing.old row };
+
+    // What is left after the last row.
+    fn close<S: Sink>(out: &mut [u8], at: usize, standing: Self::Standing) -> usize
+        requires { at + length (walk.close standing) ≤ room S.writes Self.Word.SIZE out.old }
+        ensures { Put S.writes Self.Word.SIZE (walk.close standing) out.old at out.new result };
+
+    // The words of a list have the size of the type, and are those of its spelling.
     ghost sized: { spelling.size ≡ Self.Word.SIZE };
+
+    ghost walks: { Spells spelling walk begin last };
+}
+
+// Judges rows one after the other and counts their words: what is to be written if there is room.
+fn count<W: Writer>(rows: &[u32]) -> Result<usize, WriteError>
+    ensures { result ≡ writing_of (verdict_from W.spelling.writable (rows_of rows.now) 0 0) (length (spelled W.spelling rows.now)) }
+{
+    let mut nothing: [u8; 0] = [];
+    let mut words = 0;
+    let mut standing = W::start();
+    let mut i = 0;
+    while let Some(row) = rows::get(rows, i) {
+        if let Err(fault) = W::judge(standing, row) {
+            return Err(WriteError { fault, row: i });
+        }
+        words = W::put::<Counted>(&mut nothing, words, &mut standing, row);
+        i += 1;
+    }
+    Ok(W::close::<Counted>(&mut nothing, words, standing))
+}
+
+// Writes the words of rows that were judged, into a slice that they fit.
+fn put_rows<W: Writer>(rows: &[u32], out: &mut [u8])
+    requires passed { verdict_from W.spelling.writable (rows_of rows.now) 0 0 ≡ accepted }
+    requires fits { length (spelled W.spelling rows.now) * W.Word.SIZE ≤ length out.old }
+    ensures { out.new ≡ sets out.old 0 (bytes_of_all W.Word.SIZE (spelled W.spelling rows.now)) }
+{
+    let mut at = 0;
+    let mut standing = W::start();
+    let mut done = 0;
+    while let Some(row) = rows::get(rows, done) {
+        at = W::put::<Written>(out, at, &mut standing, row);
+        done += 1;
+    }
+    W::close::<Written>(out, at, standing);
 }
 
 // Writes the words of rows from the first byte of `out` on, and answers how many they are. Refused, it touches nothing.
@@ -40,13 +94,13 @@ pub fn write<W: Writer>(rows: &[u32], out: &mut [u8]) -> Result<usize, WriteErro
             row: 0,
         });
     }
-    let count = W::count(rows)?;
-    if out.len() / W::Word::SIZE < count {
+    let words = count::<W>(rows)?;
+    if out.len() / W::Word::SIZE < words {
         return Err(WriteError {
             fault: Fault::NoRoom,
             row: 0,
         });
     }
-    W::put(rows, out);
-    Ok(count)
+    put_rows::<W>(rows, out);
+    Ok(words)
 }

@@ -5,6 +5,7 @@ use mathlib.Core.Bool.{Bool, true, false, cond, ◌&&◌}
 use mathlib.Core.List.{[], ◌∷◌}
 use Rattle.rows.specs.declared.row.Row.{Row}
 use Rattle.rows.specs.Row.{trigger_row}
+use Rattle.std.proofs.lemmas.Bool.{and_from}
 use Rattle.rows.proofs.Chosen.{never}
 use Rattle.rows.proofs.GoodRows.{and_first, and_second}
 use Rattle.words.specs.declared.picture.Picture.{Picture}
@@ -17,7 +18,6 @@ use Rattle.join.specs.Seen.{all_seen}
 use Rattle.join.proofs.AllSeen.{is_low_lem, is_y_lem, is_base_lem}
 use Rattle.join.proofs.Behind.{Behind, Covers}
 use Rattle.join.proofs.Later.{later_timed, later_given, given_later}
-use Rattle.join.proofs.Logic.{and_both}
 
 -- the same n wraps later, or nothing to the joined reader, where that may be
 pub data Answers (n : ℕ) (sure : Bool) (joined full : Given) : Type 0 where
@@ -38,9 +38,9 @@ module _ {n : ℕ} {seen : Seen} {s t : State} (h : Behind n s t) (c : Covers se
   unfolding pixel_of
   pixel_answers p w =
       if_known (all_seen seen) _ _ (s.known.time && s.known.y) (t.known.time && t.known.y)
-      (λ e. and_both _ _ (h.time (at_time e)).0 (h.y (at_y e)).0)
+      (λ e. and_from _ _ (h.time (at_time e)).0 (h.y (at_y e)).0)
       (λ e. given_later n p s t (field 11 1 w) (field 0 11 w ∷ []) (h.y (at_y e)).1 (h.y (at_y e)).2 (h.time (at_time e)).1)
-      (λ e. and_both _ _ (c.time (is_low_lem seen e)) (c.y (is_y_lem seen e)))
+      (λ e. and_from _ _ (c.time (is_low_lem seen e)) (c.y (is_y_lem seen e)))
     where
       at_time : s.known.time && s.known.y ≡ true → s.known.time ≡ true
       at_time e = and_first s.known.time _ e
@@ -52,11 +52,11 @@ module _ {n : ℕ} {seen : Seen} {s t : State} (h : Behind n s t) (c : Covers se
   unfolding vector_of
   vector_answers p bits =
       if_known (all_seen seen) _ _ (s.known.time && s.known.y && s.known.base) (t.known.time && t.known.y && t.known.base)
-      (λ e. and_both _ _ (and_both _ _ (h.time (at_time e)).0 (h.y (at_y e)).0) (h.base (at_base_lem e)).0)
+      (λ e. and_from _ _ (and_from _ _ (h.time (at_time e)).0 (h.y (at_y e)).0) (h.base (at_base_lem e)).0)
       (λ e.
       ap₂ (λ (polarity base : ℕ). pixels p t polarity (columns 12 base bits)) (h.base (at_base_lem e)).2 (h.base (at_base_lem e)).1
       ∙ given_later n p s t s.polarity (columns 12 s.base bits) (h.y (at_y e)).1 (h.y (at_y e)).2 (h.time (at_time e)).1)
-      (λ e. and_both _ _ (and_both _ _ (c.time (is_low_lem seen e)) (c.y (is_y_lem seen e))) (c.base (is_base_lem seen e)))
+      (λ e. and_from _ _ (and_from _ _ (c.time (is_low_lem seen e)) (c.y (is_y_lem seen e))) (c.base (is_base_lem seen e)))
     where
       at_base_lem : s.known.time && s.known.y && s.known.base ≡ true → s.known.base ≡ true
       at_base_lem e = and_second (s.known.time && s.known.y) _ e

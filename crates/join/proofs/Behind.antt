@@ -4,6 +4,8 @@ use mathlib.Core.Path.{◌≡◌, refl, ap}
 use Prim.Native.Nat.{ℕ, ◌+◌, ◌*◌}
 use native.Mathlib.Omega.{arith}
 use mathlib.Core.Bool.{Bool, true, false, cond}
+use Rattle.std.proofs.Common.{inl, inr}
+use Rattle.std.proofs.lemmas.Bool.{both_ways, or_cases}
 use Rattle.rows.proofs.Chosen.{never}
 use Rattle.evt3.specs.declared.kind.Kind.TheVariants.{AddrY, VectBaseX, TimeLow, TimeHigh}
 use Rattle.evt3.specs.declared.state.State.{State}
@@ -11,7 +13,6 @@ use Rattle.evt3.specs.State.{fresh, with_high, with_time, with_y, with_base, mov
 use Rattle.evt3.specs.Words.{with_low}
 use Rattle.join.specs.declared.seen.Seen.{Seen}
 use Rattle.join.specs.Seen.{none_seen, seen_with}
-use Rattle.join.proofs.Logic.{not_both, or_either}
 
 -- s is the joined reader's state, t the full reader's
 pub record Behind (n : ℕ) (s t : State) : Type 0 where
@@ -39,7 +40,7 @@ fresh_covers = record { high = λ e. never e; time = λ e. never e; y = λ e. ne
 module _ {n : ℕ} {s t : State} (h : Behind n s t) where
   pub high_behind : (high c d : ℕ) → d ≡ c + n → Behind n (with_high s high c) (with_high t high d)
   high_behind high c d e =
-      record { high = λ _. (refl, refl, e); time = h.time; y = h.y; base = h.base; start = λ f. not_both true refl f }
+      record { high = λ _. (refl, refl, e); time = h.time; y = h.y; base = h.base; start = λ f. absurd (both_ways true f refl) }
 
   pub y_behind : (y camera : ℕ) → Behind n (with_y s y camera) (with_y t y camera)
   y_behind y camera = record { high = h.high; time = h.time; y = λ _. (refl, refl, refl); base = h.base; start = h.start }
@@ -63,11 +64,11 @@ module _ {n : ℕ} {s t : State} (h : Behind n s t) where
             time = λ _. (refl, omega (arith, (h.high e).1, (h.high e).2));
             y = h.y;
             base = h.base;
-            start = λ g. not_both s.known.high e g;
+            start = λ g. absurd (both_ways s.known.high g e);
           }
-      go true e false f = not_both t.known.high (h.high e).0 f
+      go true e false f = absurd (both_ways t.known.high f (h.high e).0)
       go false e true f =
-          record { high = h.high; time = λ g. not_both s.known.time g (h.start e).0; y = h.y; base = h.base; start = h.start }
+          record { high = h.high; time = λ g. absurd (both_ways s.known.time (h.start e).0 g); y = h.y; base = h.base; start = h.start }
       go false e false f = h
 
   -- a vector moves a base that is known
@@ -85,9 +86,9 @@ module _ {n : ℕ} {s t : State} (h : Behind n s t) where
             base = λ _. (refl, ap (moved_base columns) (h.base e).1, (h.base e).2);
             start = h.start;
           }
-      go true e false f = not_both t.known.base (h.base e).0 f
+      go true e false f = absurd (both_ways t.known.base f (h.base e).0)
       go false e true f =
-          record { high = h.high; time = h.time; y = h.y; base = λ g. not_both s.known.base g e; start = h.start }
+          record { high = h.high; time = h.time; y = h.y; base = λ g. absurd (both_ways s.known.base e g); start = h.start }
       go false e false f = h
 
 module _ {seen : Seen} {s : State} (c : Covers seen s) where
@@ -109,7 +110,7 @@ module _ {seen : Seen} {s : State} (c : Covers seen s) where
       go false e =
           record {
             high = c.high;
-            time = λ f. or_either seen.high seen.low f (λ g. not_both s.known.high (c.high g) e) c.time;
+            time = λ f. elim (or_cases seen.high seen.low f) [ inl g ↦ absurd (both_ways s.known.high e (c.high g)) | inr g ↦ c.time g ];
             y = c.y;
             base = c.base;
           }

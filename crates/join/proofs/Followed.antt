@@ -24,7 +24,6 @@ use Rattle.join.specs.declared.seen.Seen.{Seen}
 use Rattle.join.specs.Join.{later, Agrees}
 use Rattle.join.specs.Seen.{seen_with, seen_after, all_seen, list_of}
 use Rattle.join.proofs.Behind.{Behind, Covers}
-use Rattle.join.proofs.Logic.{not_both}
 use Rattle.join.proofs.Stepped.{Stepped, kind_stepped}
 
 -- rows that agree word by word, and so at each word
@@ -53,7 +52,7 @@ no_more {n} joined full a = go a.given
 
 -- a TIME_HIGH that was seen stays so
 unseen_before : (k : Kind) (seen : Seen) → (seen_with k seen).high ≡ false → seen.high ≡ false
-unseen_before TimeHigh seen e = not_both true refl e
+unseen_before TimeHigh seen e = absurd cc
 unseen_before AddrY seen e = e
 unseen_before AddrX seen e = e
 unseen_before VectBaseX seen e = e

@@ -8,7 +8,7 @@ use borrow.Author.Tests.{lt-leb}
 use Rattle.evt3.specs.declared.state.State.{State}
 use Rattle.evt3.specs.Words.{drop_to, is_wrap, wraps_at, goes_back, bad_high}
 use Rattle.evt3.proofs.Steps.{few_wraps}
-use Rattle.join.proofs.Logic.{or_first}
+use Rattle.std.proofs.lemmas.Bool.{or_parts}
 
 -- both know the same high part
 module _ (n : ℕ) (s t : State) (high : ℕ) (known : t.known.high ≡ s.known.high) (same : t.high ≡ s.high) (apart : t.wraps ≡ s.wraps + n) where
@@ -36,7 +36,7 @@ module _ (n : ℕ) (s t : State) (high : ℕ) (known : t.known.high ≡ s.known.
   pub not_bad : bad_high t high ≡ false → bad_high s high ≡ false
   unfolding bad_high
   not_bad e =
-      let back : goes_back s high ≡ false = sym same_back ∙ or_first (goes_back t high) _ e in
+      let back : goes_back s high ≡ false = sym same_back ∙ (or_parts (goes_back t high) _ e).0 in
       let few : leb 1024 (wraps_at s high) ≡ false = lt-leb 1024 (wraps_at s high) (omega (arith, few_wraps t high e, wraps_apart)) in
       rw (back, few) refl
 

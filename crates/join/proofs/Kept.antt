@@ -1,11 +1,11 @@
 -- Each law of specs/Promises.antt, proved.
 use mathlib.Core.Path.{◌≡◌, refl, ◌∙◌, ap}
-use Prim.Native.Nat.{◌+◌, ◌*◌}
+use Prim.Native.Nat.{ℕ, ◌+◌, ◌*◌}
 use native.Mathlib.Omega.{arith}
 use lib.ListN.{drop}
 use borrow.Author.Tests.{le-leb}
 use Rattle.words.specs.Words.{words_of}
-use Rattle.join.specs.declared.whole.Whole.{Whole}
+use Rattle.std.specs.Prelude.{Option}
 use Rattle.join.specs.Promises.{LaterTime, JoinPartWay, SeenExact, passed_at, WholeExact, NoneMissing}
 use Rattle.join.specs.Seen.{none_seen, whole_from}
 use Rattle.join.proofs.Later as later
@@ -29,4 +29,4 @@ whole_exact bytes i =
 
 pub none_missing : NoneMissing
 none_missing p bytes k room j place e i h =
-    (j.agrees i).all (whole_exact (drop (k * 2) bytes) i ∙ ap (λ (w : Whole). passed_at w (i * 2)) e ∙ le-leb place (i * 2) h)
+    (j.agrees i).all (whole_exact (drop (k * 2) bytes) i ∙ ap (λ (w : Option ℕ). passed_at w (i * 2)) e ∙ le-leb place (i * 2) h)

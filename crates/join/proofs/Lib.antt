@@ -6,7 +6,6 @@ pub mod Followed
 pub mod HighParts
 pub mod Kept
 pub mod Later
-pub mod Logic
 pub mod Looking
 pub mod PartWay
 pub mod Places

@@ -1,55 +1,60 @@
 -- The invariant of the loop that looks for the place, and how each word keeps or ends it.
 use mathlib.Core.Path.{◌≡◌, refl, sym, ◌∙◌, ap}
-use Prim.Native.Nat.{ℕ, ◌+◌, ◌-◌, ◌≤◌}
+use Prim.Native.Nat.{ℕ, ◌+◌, ◌-◌, ◌≤◌, ◌<◌}
 use native.Mathlib.Omega.{arith}
 use mathlib.Core.Bool.{Bool, true, false, cond}
-use mathlib.Core.List.{List}
-use lib.ListN.{length, take, drop}
+use mathlib.Core.List.{List, [], ◌∷◌}
+use lib.ListN.{length, take, drop, length-drop}
+use lib.Seq.{drop-drop}
 use lib.Dec.{lit<}
-use Rattle.words.specs.declared.Next.{Next}
-use Rattle.words.specs.declared.Next.TheVariants.{Word, Part, End}
-use Rattle.words.specs.Words.{Words, first_of, words_of, next_at}
-use Rattle.words.proofs.Cut.{end_found, part_found, word_found, word_within, part_next}
+use Rattle.std.specs.Prelude.{Some, None}
+use Rattle.rows.proofs.Lists.{part_rest}
+use Rattle.words.specs.Words.{value, Words, cut_by, words_of}
+use Rattle.words.proofs.Cut.{words_one}
 use Rattle.evt3.specs.Words.{kind_of}
 use Rattle.join.specs.declared.seen.Seen.{Seen}
-use Rattle.join.specs.declared.whole.Whole.TheVariants.{From, Never}
-use Rattle.join.specs.Seen.{none_seen, seen_with, all_seen, whole_in, whole_from}
+use Rattle.join.specs.Seen.{seen_with, all_seen, whole_in, whole_from}
 
 -- what is looked for is what is found from here on
 pub record Looking (bytes : List ℕ) (seen : Seen) (at : ℕ) : Type 0 where
   pub same : whole_from bytes ≡ whole_in (words_of 2 (drop at bytes)) seen at
   pub within : at ≤ length bytes
 
-pub looking_start : (bytes : List ℕ) → Looking bytes none_seen 0
-looking_start bytes = record { same = refl; within = omega arith }
+-- a part of a word is no word
+whole_short : (l : List ℕ) (seen : Seen) (at : ℕ) → length l < 2 → whole_in (words_of 2 l) seen at ≡ None
+unfolding words_of cut_by
+whole_short [] seen at h = refl
+whole_short (a ∷ []) seen at h = refl
+whole_short (a ∷ b ∷ l) seen at h = absurd (omega arith)
 
+-- `part` are the bytes that are left
 module _ {bytes : List ℕ} {seen : Seen} {at : ℕ} (h : Looking bytes seen at) where
-  -- what stands at the front of the bytes that are left
-  pub found : {r v : Next} → r ≡ first_of (words_of 2 (take (length bytes - at) (drop at bytes))) → r ≡ v → v ≡ next_at 2 bytes at
-  found e f = sym f ∙ part_next 2 bytes at e
+  abbrev part : List ℕ
+  part = take (length bytes - at) (drop at bytes)
 
-  -- the words end
-  pub at_end_lem : End ≡ next_at 2 bytes at → Never ≡ whole_from bytes
-  at_end_lem e = sym (h.same ∙ ap (λ (ws : Words). whole_in ws seen at) (end_found (words_of 2 (drop at bytes)) e))
+  left : part ≡ drop at bytes
+  left = part_rest at bytes
 
-  pub at_part : Part ≡ next_at 2 bytes at → Never ≡ whole_from bytes
-  at_part e = sym (h.same ∙ ap (λ (ws : Words). whole_in ws seen at) (part_found (words_of 2 (drop at bytes)) e))
+  pub looks_no_more : length part < 2 → None ≡ whole_from bytes
+  looks_no_more e = sym (h.same ∙ whole_short (drop at bytes) seen at (omega (arith, ap length left)))
 
   -- a word w is next, with which s' has been seen
-  module _ {w : ℕ} (e : Word w ≡ next_at 2 bytes at) where
+  module _ (e : 2 ≤ length part) where
     pub word_in : at + 2 ≤ length bytes
-    word_in = word_within 2 (lit< tt) bytes at e
+    word_in = omega (arith, ap length left, length-drop at bytes)
 
-    module _ {s' : Seen} (r : s' ≡ seen_with (kind_of w) seen) where
-      at_word_lem : (t : Bool) → all_seen s' ≡ t → whole_from bytes ≡ cond t (From (at + 2)) (whole_in (words_of 2 (drop (at + 2) bytes)) s' (at + 2))
-      at_word_lem t f =
+    module _ {w : ℕ} (f : w ≡ value (take 2 part)) {s' : Seen} (r : s' ≡ seen_with (kind_of w) seen) where
+      at_word_lem : (t : Bool) → all_seen s' ≡ t → whole_from bytes ≡ cond t (Some (at + 2)) (whole_in (words_of 2 (drop (at + 2) bytes)) s' (at + 2))
+      at_word_lem t g =
           h.same
-          ∙ ap (λ (ws : Words). whole_in ws seen at) (word_found 2 (lit< tt) bytes at e)
-          ∙ ap (λ (s : Seen). cond (all_seen s) (From (at + 2)) (whole_in (words_of 2 (drop (at + 2) bytes)) s (at + 2))) (sym r)
-          ∙ ap (λ (b : Bool). cond b (From (at + 2)) (whole_in (words_of 2 (drop (at + 2) bytes)) s' (at + 2))) f
+          ∙ ap (λ (ws : Words). whole_in ws seen at) (words_one 2 (lit< tt) (drop at bytes) (omega (arith, ap length left)))
+          ∙ ap (λ (l : List ℕ). whole_in (Words.word (value (take 2 (drop at bytes))) (words_of 2 l)) seen at) (drop-drop 2 at bytes)
+          ∙ ap (λ (s : Seen). cond (all_seen s) (Some (at + 2)) (whole_in (words_of 2 (drop (at + 2) bytes)) s (at + 2)))
+          (ap (λ (v : ℕ). seen_with (kind_of v) seen) (sym (f ∙ ap (λ (l : List ℕ). value (take 2 l)) left)) ∙ sym r)
+          ∙ ap (λ (b : Bool). cond b (Some (at + 2)) (whole_in (words_of 2 (drop (at + 2) bytes)) s' (at + 2))) g
 
-      pub seen_all : all_seen s' ≡ true → From (at + 2) ≡ whole_from bytes
-      seen_all f = sym (at_word_lem true f)
+      pub seen_all : all_seen s' ≡ true → Some (at + 2) ≡ whole_from bytes
+      seen_all g = sym (at_word_lem true g)
 
       pub looks_on : all_seen s' ≡ false → Looking bytes s' (at + 2)
-      looks_on f = record { same = at_word_lem false f; within = word_in }
+      looks_on g = record { same = at_word_lem false g; within = word_in }

@@ -8,8 +8,8 @@ use lib.Seq.{get_or-drop}
 use Rattle.rows.specs.declared.row.Row.{Row}
 use Rattle.rows.specs.Runs.{finished, Finishes}
 use Rattle.words.specs.declared.picture.Picture.{Picture}
-use Rattle.words.specs.declared.picture.Admission.{Admission}
-use Rattle.words.specs.declared.picture.Admission.TheVariants.{Admitted}
+use Rattle.std.specs.Prelude.{Result, Ok, ⊤}
+use Rattle.rows.specs.declared.fault.Fault.{Fault}
 use Rattle.words.specs.Words.{words_of}
 use Rattle.words.specs.Machine.{Machine, Reached, run, rows_by_word, reading, read_from}
 use Rattle.words.specs.Picture.{admission_of, admitted}
@@ -29,7 +29,7 @@ module _ (p : Picture) where
   m = machine p
 
   -- what is admitted and whose run finishes is read, with the rows of its words
-  reads : (bytes : List ℕ) (room : ℕ) (end : Reached State) → admission_of (length bytes) p ≡ Admitted
+  reads : (bytes : List ℕ) (room : ℕ) (end : Reached State) → admission_of (length bytes) p ≡ Ok tt
       → (run m (words_of 2 bytes) fresh 0 room).ending ≡ finished end → Finishes (reading_of p bytes room) (flatten (full_rows p bytes))
   reads bytes room end a e =
       let finishes : (reading m (words_of 2 bytes) fresh 0 room).ending ≡ finished end = ran_reading m (words_of 2 bytes) fresh 0 room (record { ending = e; none = refl }) in
@@ -51,13 +51,13 @@ module _ (p : Picture) where
         agrees = λ i. subst (λ (l : List Row). Agrees n (all_seen_in (words_from bytes k) i) (get_or (joined_rows p bytes k) i []) l) (full_at i) (agree_at r.agree i);
       }
     where
-      is_read : admission_of (length bytes) p ≡ Admitted
+      is_read : admission_of (length bytes) p ≡ Ok tt
       is_read = was_admitted (admission_of (length bytes) p) (read_from m bytes fresh 0 room) e
 
       runs : (run m (words_of 2 bytes) fresh 0 room).ending ≡ finished end
       runs =
           (reading_ran m (words_of 2 bytes) fresh 0 room
-          (subst (λ (a : Admission). (admitted a (read_from m bytes fresh 0 room)).ending ≡ finished end) is_read e)).ending
+          (subst (λ (a : Result ⊤ Fault). (admitted a (read_from m bytes fresh 0 room)).ending ≡ finished end) is_read e)).ending
 
       rest : List ℕ
       rest = drop (k * 2) bytes

@@ -9,8 +9,7 @@ use borrow.Author.Tests.{lt-leb, le-leb}
 use Rattle.words.specs.Words.{Words, word, whole, part}
 use Rattle.evt3.specs.Words.{kind_of}
 use Rattle.join.specs.declared.seen.Seen.{Seen}
-use Rattle.join.specs.declared.whole.Whole.{Whole}
-use Rattle.join.specs.declared.whole.Whole.TheVariants.{From}
+use Rattle.std.specs.Prelude.{Option, Some}
 use Rattle.join.specs.Promises.{passed_at}
 use Rattle.join.specs.Seen.{seen_with, seen_after, all_seen, list_of, whole_in}
 use Rattle.join.proofs.AllSeen.{all_after}
@@ -21,10 +20,10 @@ not_passed whole seen place at h = refl
 not_passed part seen place at h = refl
 not_passed (word w ws) seen place at h = go (all_seen (seen_with (kind_of w) seen)) (not_passed ws (seen_with (kind_of w) seen) (place + 2) at (omega (arith, h)))
   where
-    rest : Whole
+    rest : Option ℕ
     rest = whole_in ws (seen_with (kind_of w) seen) (place + 2)
 
-    go : (t : Bool) → passed_at rest at ≡ false → passed_at (cond t (From (place + 2)) rest) at ≡ false
+    go : (t : Bool) → passed_at rest at ≡ false → passed_at (cond t (Some (place + 2)) rest) at ≡ false
     go true ih = lt-leb (place + 2) at (omega (arith, h))
     go false ih = ih
 
@@ -42,7 +41,7 @@ passed (word w ws) seen place (suc i) e = go (all_seen seen') refl (passed ws se
     seen' : Seen
     seen' = seen_with (kind_of w) seen
 
-    rest : Whole
+    rest : Option ℕ
     rest = whole_in ws seen' (place + 2)
 
     at : place + 2 + i * 2 ≡ place + suc i * 2
@@ -50,6 +49,6 @@ passed (word w ws) seen place (suc i) e = go (all_seen seen') refl (passed ws se
 
     go : (t : Bool) → all_seen seen' ≡ t
         → (all_seen seen' ≡ false → all_seen (seen_after seen' (take i (list_of ws))) ≡ passed_at rest (place + 2 + i * 2))
-        → all_seen (seen_after seen' (take i (list_of ws))) ≡ passed_at (cond t (From (place + 2)) rest) (place + suc i * 2)
+        → all_seen (seen_after seen' (take i (list_of ws))) ≡ passed_at (cond t (Some (place + 2)) rest) (place + suc i * 2)
     go true f ih = all_after (take i (list_of ws)) seen' f ∙ sym (le-leb (place + 2) (place + suc i * 2) (omega arith))
     go false f ih = ih f ∙ ap (passed_at rest) at

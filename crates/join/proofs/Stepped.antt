@@ -10,6 +10,7 @@ use Rattle.rows.specs.declared.fault.Fault.TheVariants as refusal
 use Rattle.rows.specs.declared.row.Row.{Row}
 use Rattle.words.specs.declared.picture.Picture.{Picture}
 use Rattle.words.specs.Fields.{field}
+use Rattle.std.proofs.lemmas.Bool.{both_ways}
 use Rattle.words.specs.Machine.{Outcome, next, Given, gives, refuses, refused_if, onto}
 use Rattle.evt3.specs.declared.kind.Kind.{Kind}
 use Rattle.evt3.specs.declared.kind.Kind.TheVariants.{AddrY, AddrX, VectBaseX, Vect12, Vect8, TimeLow}
@@ -24,7 +25,6 @@ use Rattle.join.proofs.Answers.{Answers, same, none, pixel_answers, vector_answe
 use Rattle.join.proofs.Behind.{Behind, high_behind, y_behind, base_behind, low_behind, moved_behind}
 use Rattle.join.proofs.Behind.{Covers, high_covers, y_covers, base_covers, low_covers, moved_covers}
 use Rattle.join.proofs.HighParts.{wraps_apart, not_bad, first_wraps, first_good}
-use Rattle.join.proofs.Logic.{not_both, no_fault, same_state, same_rows}
 
 -- what the joined reader did at the word, where the full reader came to t and gave `full`
 pub record Stepped (n : ℕ) (sure : Bool) (seen : Seen) (o : Outcome State) (t : State) (full : List Row) : Type 0 where
@@ -35,14 +35,22 @@ pub record Stepped (n : ℕ) (sure : Bool) (seen : Seen) (o : Outcome State) (t 
   pub covers : Covers seen state
   pub agrees : Agrees n sure joined full
 
+-- what two outcomes that are the same have the same
+module _ {S : Type 0} {s t : S} {a b : List Row} (e : next s a ≡ next t b) where
+  same_state : s ≡ t
+  same_state = cc
+
+  same_rows : a ≡ b
+  same_rows = cc
+
 same_given : {x y : List Row} → gives x ≡ gives y → x ≡ y
 same_given e = cc
 
 -- from what a word gives to all that it does
 module _ {n : ℕ} {sure : Bool} {seen : Seen} {s t : State} (h : Behind n s t) (c : Covers seen s) {t' : State} {new : List Row} where
   stepped : (joined full : Given) → Answers n sure joined full → onto full t ≡ next t' new → Stepped n sure seen (onto joined s) t' new
-  stepped joined (refuses f) a e = no_fault e
-  stepped (refuses f) (gives l) (same a) e = let z : ◌≡◌ {A = ℕ} 0 1 = cc in absurd (omega arith)
+  stepped joined (refuses f) a e = absurd cc
+  stepped (refuses f) (gives l) (same a) e = absurd cc
   stepped (gives rs) (gives l) (same a) e =
       let agree : new ≡ map (later n) rs = sym (same_rows e) ∙ same_given a in
       record {
@@ -60,7 +68,7 @@ module _ {n : ℕ} {sure : Bool} {seen : Seen} {s t : State} (h : Behind n s t) 
         step = ap (λ (g : Given). onto g s) a;
         behind = subst (Behind n s) (same_state e) h;
         covers = c;
-        agrees = record { given = inl refl; all = λ q. not_both sure q f };
+        agrees = record { given = inl refl; all = λ q. absurd (both_ways sure f q) };
       }
 
 -- EVT_TIME_HIGH. If it is the first that is seen, n is the wrap count that the full reader comes to
@@ -84,7 +92,7 @@ module _ {n : ℕ} (sure : Bool) {seen : Seen} {s t : State} (h : Behind n s t) 
       }
 
   unseen : (b : Bool) → (b ≡ true → s.known.high ≡ true) → s.known.high ≡ false → b ≡ false
-  unseen true f e = not_both s.known.high (f refl) e
+  unseen true f e = absurd (both_ways s.known.high e (f refl))
   unseen false f e = refl
 
   high_stepped : (seen.high ≡ false → n ≡ t'.wraps) → time_high t w ≡ next t' new → HighStepped
@@ -101,7 +109,7 @@ module _ {n : ℕ} (sure : Bool) {seen : Seen} {s t : State} (h : Behind n s t) 
           (omega (arith, came, first (unseen seen.high c.high is), first_wraps s high is, (h.start is).1)) e
 
       go : (b : Bool) → bad_high t high ≡ b → onto (refused_if b refusal.BadTime) (with_high t high (wraps_at t high)) ≡ next t' new → HighStepped
-      go true bad g = no_fault g
+      go true bad g = absurd cc
       go false good g = known s.known.high refl good g
 
 module _ {n : ℕ} {seen : Seen} {s t : State} (h : Behind n s t) (c : Covers seen s) {t' : State} {new : List Row} where
@@ -123,4 +131,4 @@ module _ {n : ℕ} {seen : Seen} {s t : State} (h : Behind n s t) (c : Covers se
   kind_stepped Continued4 p w first e = stepped h c (gives []) (gives []) (same refl) e
   kind_stepped Others p w first e = stepped h c (gives []) (gives []) (same refl) e
   kind_stepped Continued12 p w first e = stepped h c (gives []) (gives []) (same refl) e
-  kind_stepped Reserved p w first e = no_fault e
+  kind_stepped Reserved p w first e = absurd cc

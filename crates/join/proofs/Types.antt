@@ -7,6 +7,7 @@ use mathlib.Core.Bool.{Bool, true, false, ◌&&◌, ◌||◌}
 use mathlib.Core.List.{List, [], ◌∷◌}
 use lib.Dec.{eqb}
 use borrow.Author.Tests.{eqb-true, eq-eqb}
+use Rattle.std.proofs.lemmas.Bool.{or_cases, or_right}
 use Rattle.rows.proofs.Chosen.{never}
 use Rattle.rows.proofs.GoodRows.{and_first, and_second}
 use Rattle.words.specs.Fields.{field}
@@ -14,15 +15,10 @@ use Rattle.join.specs.declared.seen.Seen.{Seen}
 use Rattle.join.specs.Promises.{Stands, FourAmong}
 use Rattle.join.specs.Seen.{none_seen, seen_after, all_seen}
 use Rattle.join.proofs.AllSeen.{is_low_lem, is_y_lem, is_base_lem}
-use Rattle.join.proofs.Logic.{or_either}
 use Rattle.join.proofs.Told.{told, told_kind}
 
 abbrev type_of : ℕ → ℕ
 type_of w = field 12 4 w
-
-or_true : (x : Bool) → x || true ≡ true
-or_true true = refl
-or_true false = refl
 
 module _ {type w : ℕ} {ws : List ℕ} where
   here : eqb (type_of w) type ≡ true → Stands type (w ∷ ws) 0
@@ -38,14 +34,14 @@ has type before (w ∷ ws) = has type (eqb (type_of w) type || before) ws
 
 has_more : (type : ℕ) (ws : List ℕ) → has type true ws ≡ true
 has_more type [] = refl
-has_more type (w ∷ ws) = ap (λ (b : Bool). has type b ws) (or_true (eqb (type_of w) type)) ∙ has_more type ws
+has_more type (w ∷ ws) = ap (λ (b : Bool). has type b ws) (or_right (eqb (type_of w) type) true refl) ∙ has_more type ws
 
 has_found : (type : ℕ) (ws : List ℕ) (before : Bool) → has type before ws ≡ true → (before ≡ true) ⊎ ((j : ℕ) × Stands type ws j)
 has_found type [] before e = inl e
 has_found type (w ∷ ws) before e = go (has_found type ws (eqb (type_of w) type || before) e)
   where
     go : (eqb (type_of w) type || before ≡ true) ⊎ ((j : ℕ) × Stands type ws j) → (before ≡ true) ⊎ ((j : ℕ) × Stands type (w ∷ ws) j)
-    go (inl f) = or_either (eqb (type_of w) type) before f (λ g. inr (0, here g)) inl
+    go (inl f) = elim (or_cases (eqb (type_of w) type) before f) [ inl g ↦ inr (0, here g) | inr g ↦ inl g ]
     go (inr s) = inr (suc s.0, further s.1)
 
 has_stands : (type : ℕ) (ws : List ℕ) (before : Bool) (j : ℕ) → Stands type ws j → has type before ws ≡ true
@@ -61,7 +57,7 @@ lows high low (w ∷ ws) = lows (eqb (type_of w) 8 || high) (eqb (type_of w) 6 &
 lows_more : (ws : List ℕ) (high : Bool) → lows high true ws ≡ true
 lows_more [] high = refl
 lows_more (w ∷ ws) high =
-    ap (λ (b : Bool). lows (eqb (type_of w) 8 || high) b ws) (or_true (eqb (type_of w) 6 && high)) ∙ lows_more ws (eqb (type_of w) 8 || high)
+    ap (λ (b : Bool). lows (eqb (type_of w) 8 || high) b ws) (or_right (eqb (type_of w) 6 && high) true refl) ∙ lows_more ws (eqb (type_of w) 8 || high)
 
 -- a TIME_LOW at l, after a TIME_HIGH among the words or before them
 abbrev After : Bool → List ℕ → ℕ → Type 0
@@ -72,13 +68,15 @@ lows_found [] high low e = inl e
 lows_found (w ∷ ws) high low e = go (lows_found ws (eqb (type_of w) 8 || high) (eqb (type_of w) 6 && high || low) e)
   where
     later : (l : ℕ) → Stands 6 ws l → (eqb (type_of w) 8 || high ≡ true) ⊎ ((h : ℕ) × Stands 8 ws h × (h < l)) → After high (w ∷ ws) (suc l)
-    later l s (inl f) = (further s, or_either (eqb (type_of w) 8) high f (λ g. inr (0, here g, omega arith)) inl)
+    later l s (inl f) = (further s, elim (or_cases (eqb (type_of w) 8) high f) [ inl g ↦ inr (0, here g, omega arith) | inr g ↦ inl g ])
     later l s (inr h) = (further s, inr (suc h.0, further h.1, omega (arith, h.2)))
 
     go : (eqb (type_of w) 6 && high || low ≡ true) ⊎ ((l : ℕ) × After (eqb (type_of w) 8 || high) ws l) → (low ≡ true) ⊎ ((l : ℕ) × After high (w ∷ ws) l)
     go (inl f) =
-        or_either (eqb (type_of w) 6 && high) low f
-        (λ g. inr (0, (here (and_first (eqb (type_of w) 6) high g), inl (and_second (eqb (type_of w) 6) high g)))) inl
+        elim (or_cases (eqb (type_of w) 6 && high) low f) [
+          | inl g ↦ inr (0, (here (and_first (eqb (type_of w) 6) high g), inl (and_second (eqb (type_of w) 6) high g)))
+          | inr g ↦ inl g
+        ]
     go (inr s) = inr (suc s.0, later s.0 s.1.0 s.1.1)
 
 lows_known : (ws : List ℕ) (low : Bool) (l : ℕ) → Stands 6 ws l → lows true low ws ≡ true
@@ -86,7 +84,7 @@ lows_known [] low l s = absurd (omega (arith, s.within))
 lows_known (w ∷ ws) low zero s =
     ap (λ (b : Bool). lows (eqb (type_of w) 8 || true) (b && true || low) ws) (eq-eqb _ _ s.is) ∙ lows_more ws (eqb (type_of w) 8 || true)
 lows_known (w ∷ ws) low (suc l) s =
-    ap (λ (b : Bool). lows b (eqb (type_of w) 6 && true || low) ws) (or_true (eqb (type_of w) 8))
+    ap (λ (b : Bool). lows b (eqb (type_of w) 6 && true || low) ws) (or_right (eqb (type_of w) 8) true refl)
     ∙ lows_known ws (eqb (type_of w) 6 && true || low) l (record { within = omega (arith, s.within); is = s.is })
 
 lows_stands : (ws : List ℕ) (high low : Bool) (h l : ℕ) → Stands 8 ws h → Stands 6 ws l → h < l → lows high low ws ≡ true

@@ -1,5 +1,5 @@
 -- The laws of this crate, each proved in proofs/Kept.antt under the name in lower case.
-use Rattle.std.specs.Prelude.{◌≡◌, ℕ, ◌+◌, ◌*◌, ◌≤◌, ◌<◌, Bool, true, false, List, [], map, length, drop, get_or, leb}
+use Rattle.std.specs.Prelude.{◌≡◌, ℕ, ◌+◌, ◌*◌, ◌≤◌, ◌<◌, Bool, true, false, List, [], map, length, drop, get_or, leb, Option, Some, None}
 use Rattle.rows.specs.declared.row.Row.{Row}
 use Rattle.rows.specs.Row.{time_of}
 use Rattle.rows.specs.Runs.{finished}
@@ -9,8 +9,6 @@ use Rattle.words.specs.Machine.{Reached}
 use Rattle.words.specs.Words.{words_of}
 use Rattle.evt3.specs.declared.state.State.{State}
 use Rattle.evt3.specs.Reader.{reading_of}
-use Rattle.join.specs.declared.whole.Whole.{Whole}
-use Rattle.join.specs.declared.whole.Whole.TheVariants.{From, Never}
 use Rattle.join.specs.Join.{later, joined_rows, full_rows, Joins}
 use Rattle.join.specs.Seen.{none_seen, seen_after, all_seen, all_seen_in, whole_from}
 
@@ -45,9 +43,9 @@ abbrev pub SeenExact : Type 0
 SeenExact = (ws : List ℕ) → (all_seen (seen_after none_seen ws) ≡ true → FourAmong ws) × (FourAmong ws → all_seen (seen_after none_seen ws) ≡ true)
 
 -- whether a place has been passed at byte `at`
-abbrev pub passed_at : Whole → ℕ → Bool
-passed_at (From place) at = leb place at
-passed_at Never at = false
+abbrev pub passed_at : Option ℕ → ℕ → Bool
+passed_at (Some place) at = leb place at
+passed_at None at = false
 
 -- the place that `whole_from` answers is passed just where all four are among the words before
 abbrev pub WholeExact : Type 0
@@ -55,5 +53,5 @@ WholeExact = (bytes : List ℕ) (i : ℕ) → all_seen_in (words_of 2 bytes) i �
 
 -- 02, R-10, its last sentence: from that place on no row is missing of what the full reader gave
 abbrev pub NoneMissing : Type 0
-NoneMissing = (p : Picture) (bytes : List ℕ) (k room : ℕ) (j : Joins p bytes k room) (place : ℕ) → whole_from (drop (k * 2) bytes) ≡ From place
+NoneMissing = (p : Picture) (bytes : List ℕ) (k room : ℕ) (j : Joins p bytes k room) (place : ℕ) → whole_from (drop (k * 2) bytes) ≡ Some place
     → (i : ℕ) → place ≤ i * 2 → get_or (full_rows p bytes) (k + i) [] ≡ map (later j.wraps) (get_or (joined_rows p bytes k) i [])

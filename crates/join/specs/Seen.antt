@@ -1,13 +1,11 @@
 -- Which words have been seen, by their kinds alone, and the byte from which on none of their rows is missing. 02, R-10.
-use Rattle.std.specs.Prelude.{ℕ, ◌+◌, Bool, true, false, cond, ◌&&◌, ◌||◌, List, [], ◌∷◌, take}
+use Rattle.std.specs.Prelude.{ℕ, ◌+◌, Bool, true, false, cond, ◌&&◌, ◌||◌, List, [], ◌∷◌, take, Option, Some, None}
 use Rattle.words.specs.Words.{Words, word, whole, part, words_of}
 use Rattle.evt3.specs.declared.kind.Kind.{Kind}
 use Rattle.evt3.specs.declared.kind.Kind.TheVariants.{AddrY, AddrX, VectBaseX, Vect12, Vect8, TimeLow}
 use Rattle.evt3.specs.declared.kind.Kind.TheVariants.{Continued4, TimeHigh, ExtTrigger, Others, Continued12, Reserved}
 use Rattle.evt3.specs.Words.{kind_of}
 use Rattle.join.specs.declared.seen.Seen.{Seen}
-use Rattle.join.specs.declared.whole.Whole.{Whole}
-use Rattle.join.specs.declared.whole.Whole.TheVariants.{From, Never}
 use Rattle.join.specs.declared.whole.WholeNumbers.{WholeNumbers}
 
 -- before the first word none
@@ -49,17 +47,17 @@ abbrev pub all_seen_in : Words → ℕ → Bool
 all_seen_in ws i = all_seen (seen_after none_seen (take i (list_of ws)))
 
 -- the place after the word by which all four have been seen, the words being from a place on; a part of a word is no word
-abbrev pub whole_in : Words → Seen → ℕ → Whole
+abbrev pub whole_in : Words → Seen → ℕ → Option ℕ
 whole_in (word w ws) seen place =
-    cond (all_seen (seen_with (kind_of w) seen)) (From (place + 2)) (whole_in ws (seen_with (kind_of w) seen) (place + 2))
-whole_in whole seen place = Never
-whole_in part seen place = Never
+    cond (all_seen (seen_with (kind_of w) seen)) (Some (place + 2)) (whole_in ws (seen_with (kind_of w) seen) (place + 2))
+whole_in whole seen place = None
+whole_in part seen place = None
 
 -- of any bytes
-abbrev pub whole_from : List ℕ → Whole
+abbrev pub whole_from : List ℕ → Option ℕ
 whole_from bytes = whole_in (words_of 2 bytes) none_seen 0
 
 -- as two numbers
-abbrev pub whole_numbers : Whole → WholeNumbers
-whole_numbers (From place) = record { seen = 1; place = place }
-whole_numbers Never = record { seen = 0; place = 0 }
+abbrev pub whole_numbers : Option ℕ → WholeNumbers
+whole_numbers (Some place) = record { seen = 1; place = place }
+whole_numbers None = record { seen = 0; place = 0 }

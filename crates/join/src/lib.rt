@@ -12,4 +12,4 @@ mod seen;
 mod whole;
 
 pub use seen::Seen;
-pub use whole::{Whole, WholeNumbers, whole_from};
+pub use whole::{WholeNumbers, whole_from};

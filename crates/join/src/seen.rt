@@ -1,10 +1,10 @@
 // Which words have been seen.
 ghost use Rattle.std.specs.Prelude.{◌≡◌};
 ghost use Rattle.evt3.specs.Words.{kind_of};
-ghost use Rattle.join.specs.Seen.{none_seen, seen_with, all_seen};
+ghost use Rattle.join.specs.Seen.{seen_with, all_seen};
 
-// Which words have been seen, by their kinds alone.
-#[derive(Clone, Copy)]
+// Which words have been seen, by their kinds alone; at first none. Four facts, and no value stands beside any.
+#[derive(Clone, Copy, Debug, Default, PartialEq, Eq)]
 pub struct Seen {
     pub high: bool,
     // A TIME_LOW after a TIME_HIGH.
@@ -14,19 +14,8 @@ pub struct Seen {
 }
 
 impl Seen {
-    // No word yet.
-    pub(crate) fn none() -> Seen
-        ensures { result ≡ none_seen }
-    {
-        Seen {
-            high: false,
-            low: false,
-            y: false,
-            base: false,
-        }
-    }
-
     // With one word more. Each field is worked out whatever the word is: no branch for a processor to guess.
+    #[tactic(auto, using(crate::proofs::Told::told_kind))]
     pub(crate) fn with(self, w: u64) -> Seen
         ensures { result ≡ seen_with (kind_of w) self }
     {

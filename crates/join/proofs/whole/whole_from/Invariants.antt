@@ -4,8 +4,8 @@ use lib.ListN.{length}
 use Rattle.join.proofs.Looking.{Looking}
 use Rattle.join.proofs.whole.whole_from.Given as goal
 
-abbrev pub invariant-loop-w : goal.invariant-loop-w
-invariant-loop-w l = Looking l.bytes l.seen l.at
+abbrev pub invariant-loop-word : goal.invariant-loop-word
+invariant-loop-word l = Looking l.bytes l.seen l.at
 
-abbrev pub decreases-loop-w : goal.decreases-loop-w
-decreases-loop-w l = length l.bytes - l.at
+abbrev pub decreases-loop-word : goal.decreases-loop-word
+decreases-loop-word l = length l.bytes - l.at

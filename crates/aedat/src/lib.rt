@@ -22,11 +22,11 @@ mod marks;
 mod number;
 mod packet;
 mod reader;
+mod reading;
 mod special;
 mod state;
 
-pub use lines::{Lines, Stage, Step};
-pub use packet::{Kind, PacketHeader, Use};
+pub use lines::{Line, Stage};
+pub use packet::{Kind, PacketHeader};
 pub use reader::read;
-pub use special::Meaning;
 pub use state::State;

@@ -2,31 +2,34 @@
 ghost use Rattle.std.specs.Prelude.{◌≡◌};
 ghost use Rattle.aedat.specs.Specials.{meaning_of};
 
-// An edge on a channel, 1 rising; or a special event of its own.
-#[derive(Clone, Copy)]
-pub enum Meaning {
-    Edge { channel: u32, edge: u32 },
-    Other,
-}
+// The types that 001 defines, in order: where a type is an edge of an input, its channel, and 1 where it rises.
+const EDGES: [Option<(u32, u32)>; 18] = [
+    None,
+    None,
+    Some((0, 1)),
+    Some((0, 0)),
+    None,
+    None,
+    Some((1, 1)),
+    Some((1, 0)),
+    None,
+    Some((2, 1)),
+    Some((2, 0)),
+    None,
+    Some((3, 1)),
+    Some((3, 0)),
+    None,
+    None,
+    None,
+    None,
+];
 
-// The types that 001 defines, in order: 2 × channel + edge where a type is an edge, and else 8.
-const EDGES: [u32; 18] = [8, 8, 1, 0, 8, 8, 3, 2, 8, 5, 4, 8, 7, 6, 8, 8, 8, 8];
-
-impl Meaning {
-    // The meaning of a type; types that the table does not have are special events.
-    pub(crate) fn of(code: u32) -> Meaning
-        ensures { result ≡ meaning_of code }
-    {
-        if 18 <= code {
-            return Meaning::Other;
-        }
-        let edge = EDGES[code as usize];
-        if edge == 8 {
-            return Meaning::Other;
-        }
-        Meaning::Edge {
-            channel: edge / 2,
-            edge: edge % 2,
-        }
+// The edge that a type is. The others are special events of their own, types that the table does not have among them.
+pub(crate) fn edge_of(code: u32) -> Option<(u32, u32)>
+    ensures { result ≡ meaning_of code }
+{
+    if code < 18 {
+        return EDGES[code as usize];
     }
+    None
 }

@@ -1,33 +1,42 @@
 -- `aedat::lines::read_line` meets its contract.
-use lib.ListN.{length}
-use Prim.Native.Nat.{◌<◌}
-use Rattle.aedat.proofs.HeaderLines.{step_cut, step_endless, line_in, step_bare, step_returned, step_unreturned}
+use Rattle.aedat.proofs.HeaderLines.{line_in, step_unended, step_bare, step_returned}
+use Rattle.std.proofs.Common.{rules, ◌≡◌, ◌∙◌, sym, ◌<◌, ◌-◌, length, take, drop, [], ◌∷◌, eqb, true, false, Ok, Err, length-take-le}
+use Rattle.std.specs.Cmp.Lexicographic.{pointwise}
+use Rattle.rows.specs.declared.fault.Fault.TheVariants.{BadHeader}
 use native.Mathlib.Omega.{arith}
 use Rattle.aedat.proofs.lines.read_line.Goals as goal
-use Rattle.aedat.proofs.lines.read_line.Goals.{In-Ends}
+use Rattle.aedat.proofs.lines.read_line.Goals.{In_ok-end}
 
 -- the newline lies in the bytes
-ends : (d : In-Ends) → d.in-Ends.i < length d.args.bytes.now
-ends d = line_in d.args.bytes.now d.line_end-line.ensures d.in-Ends.is
+ends : (d : In_ok-end) → d.in_ok-end.end < length d.args.bytes.now
+ends d = line_in d.args.bytes.now d.line_end.ensures (d.in_ok-end.was {u = tt})
 
-pub returns-then-i-eq0 : goal.returns-then-i-eq0
-returns-then-i-eq0 c =
-    step_bare _ _ c.line_end-line.ensures c.in-Ends.is c.if-i-eq0.true
+pub returns-in_err-end : goal.returns-in_err-end
+returns-in_err-end c =
+    let q : c.from_residual.result ≡ Err c.in_err-end.field-0.0 = search rules in
+    q ∙ step_unended _ _ c.line_end.ensures (c.in_err-end.was {u = tt})
 
-pub bounds-bytes-end : goal.bounds-bytes-end
-bounds-bytes-end c = omega (arith, ends (goal.at.bounds-bytes-end c).In-Ends)
+pub slice_bounds-strip_suffix-end : goal.slice_bounds-strip_suffix-end
+slice_bounds-strip_suffix-end c = sym (length-take-le _ _ (omega (arith, ends c)))
 
-pub returns-then-bytes-end-eq13 : goal.returns-then-bytes-end-eq13
-returns-then-bytes-end-eq13 c =
-    step_returned _ _ c.line_end-line.ensures c.in-Ends.is c.if-i-eq0.false c.if-bytes-end-eq13.true
-    c.judge.ensures
+pub returns-in_err-text : goal.returns-in_err-text
+returns-in_err-text c =
+    let q : c.from_residual-in_err-text.result ≡ Err BadHeader = search rules in
+    let z : pointwise eqb (drop (length (take c.in_ok-end.end c.args.bytes.now) - 1) (take c.in_ok-end.end c.args.bytes.now)) (13 ∷ []) ≡ false = search rules in
+    q ∙ step_bare _ _ c.line_end.ensures (c.in_ok-end.was {u = tt}) z
 
-pub returns-in-Cut : goal.returns-in-Cut
-returns-in-Cut c = step_cut _ _ c.line_end-line.ensures c.in-Cut.is
+pub overflow_add-result : goal.overflow_add-result
+overflow_add-result c = omega (arith, ends (goal.at.overflow_add-result c).In_ok-end)
 
-pub returns-in-Endless : goal.returns-in-Endless
-returns-in-Endless c = step_endless _ _ c.line_end-line.ensures c.in-Endless.is
+pub returns-in_err-judge : goal.returns-in_err-judge
+returns-in_err-judge c =
+    let q : c.from_residual-in_err-judge.result ≡ Err c.in_err-judge.field-0.0 = search rules in
+    let z : pointwise eqb (drop (length (take c.in_ok-end.end c.args.bytes.now) - 1) (take c.in_ok-end.end c.args.bytes.now)) (13 ∷ []) ≡ true = search rules in
+    let t : c.in_ok-text.text.now ≡ take (length (take c.in_ok-end.end c.args.bytes.now) - 1) (take c.in_ok-end.end c.args.bytes.now) = search rules in
+    q ∙ step_returned _ _ c.line_end.ensures (c.in_ok-end.was {u = tt}) z t (sym (c.in_err-judge.was {u = tt}) ∙ c.judge.ensures)
 
-pub returns-else-bytes-end-eq13 : goal.returns-else-bytes-end-eq13
-returns-else-bytes-end-eq13 c =
-    step_unreturned _ _ c.line_end-line.ensures c.in-Ends.is c.if-i-eq0.false c.if-bytes-end-eq13.false
+pub returns : goal.returns
+returns c =
+    let z : pointwise eqb (drop (length (take c.in_ok-end.end c.args.bytes.now) - 1) (take c.in_ok-end.end c.args.bytes.now)) (13 ∷ []) ≡ true = search rules in
+    let t : c.in_ok-text.text.now ≡ take (length (take c.in_ok-end.end c.args.bytes.now) - 1) (take c.in_ok-end.end c.args.bytes.now) = search rules in
+    step_returned _ _ c.line_end.ensures (c.in_ok-end.was {u = tt}) z t (sym (c.in_ok-judge.was {u = tt}) ∙ c.judge.ensures)

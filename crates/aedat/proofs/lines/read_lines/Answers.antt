@@ -1,33 +1,40 @@
 -- `aedat::lines::read_lines` meets its contract.
-use Rattle.aedat.proofs.HeaderLines.{lines_start, last_line_in, good_line_in, good_line_read}
-use Rattle.header.proofs.LineRules.{line_then}
+use Rattle.aedat.proofs.HeaderLines.{lines_start, line_refused, good_line_in, last_line_read, good_line_read}
 use native.Mathlib.Omega.{arith}
-use mathlib.Core.Path.{sym}
+use Rattle.std.proofs.Common.{rules, ◌≡◌, sym, ◌∙◌, Ok, Err, Some, None}
+use Rattle.rows.specs.declared.fault.Fault.{Fault}
 use Rattle.aedat.proofs.lines.read_lines.Goals as goal
+use Rattle.aedat.proofs.lines.read_lines.Goals.{In_ok-line, After-from_residual}
 
-pub loop-fault-init : goal.loop-fault-init
-loop-fault-init c = lines_start _
+-- a good line was read
+good : (d : In_ok-line) → d.read_line.result ≡ Ok d.in_ok-line.line
+good d = search rules
 
-pub returns-in-Stop : goal.returns-in-Stop
-returns-in-Stop c =
-    sym (line_then c.loop-fault.invariant c.read_line-step.ensures c.in-Stop.is)
+-- or refused
+refused : (d : After-from_residual) → (f : Fault) × (d.read_line.result ≡ Err f) × (d.from_residual.result ≡ Err (record { fault = f; place = d.loop-line.at }))
+refused d = search rules
 
-pub overflow_add-result : goal.overflow_add-result
-overflow_add-result c =
-    omega (arith, last_line_in c.loop-fault.invariant c.read_line-step.ensures c.in-Over.is, c.loop-fault.invariant.within)
+pub loop-line-init : goal.loop-line-init
+loop-line-init c = lines_start _
 
-pub returns-in-Over : goal.returns-in-Over
-returns-in-Over c =
-    sym (line_then c.loop-fault.invariant c.read_line-step.ensures c.in-Over.is)
+pub returns-in_err-line : goal.returns-in_err-line
+returns-in_err-line c =
+    let bad = refused (goal.at.returns-in_err-line c).After-from_residual in
+    bad.2 ∙ sym (line_refused c.loop-line.invariant c.read_line.ensures bad.1)
 
 pub overflow_add-at : goal.overflow_add-at
 overflow_add-at c =
-    omega (arith, good_line_in c.loop-fault.invariant c.read_line-step.ensures c.in-More.is, c.loop-fault.invariant.within)
+    omega (arith, good_line_in c.loop-line.invariant c.read_line.ensures (good (goal.at.overflow_add-at c).In_ok-line), c.loop-line.invariant.within)
 
-pub loop-fault-smaller : goal.loop-fault-smaller
-loop-fault-smaller c =
-    omega (arith, good_line_in c.loop-fault.invariant c.read_line-step.ensures c.in-More.is, c.loop-fault.invariant.within)
+pub returns-in_default : goal.returns-in_default
+returns-in_default c =
+    let last : c.in_ok-line.line.next ≡ None = search rules in
+    sym (last_line_read c.loop-line.invariant c.read_line.ensures (good (goal.at.returns-in_default c).In_ok-line) last)
 
-pub loop-fault-preserved : goal.loop-fault-preserved
-loop-fault-preserved c =
-    good_line_read c.loop-fault.invariant c.read_line-step.ensures c.in-More.is c.next-stage.ensures
+pub loop-line-smaller : goal.loop-line-smaller
+loop-line-smaller c =
+    omega (arith, good_line_in c.loop-line.invariant c.read_line.ensures (good (goal.at.loop-line-smaller c).In_ok-line), c.loop-line.invariant.within)
+
+pub loop-line-preserved : goal.loop-line-preserved
+loop-line-preserved c =
+    good_line_read c.loop-line.invariant c.read_line.ensures (good (goal.at.loop-line-preserved c).In_ok-line) c.in-Some.is

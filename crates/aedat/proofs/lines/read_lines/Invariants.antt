@@ -6,8 +6,8 @@ use lib.ListN.{length}
 use Prim.Native.Nat.{◌-◌}
 use Rattle.aedat.proofs.lines.read_lines.Given as goal
 
-abbrev pub invariant-loop-fault : goal.invariant-loop-fault
-invariant-loop-fault l = LinesRead rule l.bytes (lines_of l.bytes) l.stage l.at
+abbrev pub invariant-loop-line : goal.invariant-loop-line
+invariant-loop-line l = LinesRead rule l.bytes (lines_of l.bytes) l.stage l.at
 
-abbrev pub decreases-loop-fault : goal.decreases-loop-fault
-decreases-loop-fault l = length l.bytes - l.at
+abbrev pub decreases-loop-line : goal.decreases-loop-line
+decreases-loop-line l = length l.bytes - l.at

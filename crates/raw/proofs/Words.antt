@@ -4,13 +4,12 @@ use Prim.Native.Nat.{ℕ, ◌+◌, ◌-◌, ◌≤◌}
 use native.Mathlib.Omega.{arith}
 use mathlib.Core.List.{List}
 use lib.ListN.{length, take, drop, length-drop}
-use Rattle.rows.specs.declared.fault.Fault.{Fault}
-use Rattle.rows.specs.declared.fault.Reading.{Reading}
-use Rattle.rows.specs.declared.fault.Reading.TheVariants.{Refused}
+use Rattle.std.specs.Prelude.{Result, Err}
+use Rattle.rows.specs.declared.fault.ReadError.{ReadError}
 use Rattle.rows.specs.Rules.{AllGood}
 use Rattle.rows.specs.Runs.{run_as, run_from, EndsWithin, ReadAs}
 use Rattle.rows.proofs.Lists.{part_rest}
-use Rattle.rows.proofs.Viewed.{reads_as, as_within, answer_from, reads_from, reads_place, from_within}
+use Rattle.rows.proofs.Viewed.{as_within, answer_from, reads_from, reads_place, from_within}
 use Rattle.words.specs.Picture.{picture_of}
 use Rattle.evt2.specs.Reader as evt2_reader
 use Rattle.evt2_laws.proofs.Kept as evt2
@@ -25,18 +24,6 @@ pub evt2_words_lem : (width height : ℕ) (bytes : List ℕ) (room : ℕ)
     → words_as Evt2 width height bytes room ≡ run_as (λ _. tt) (evt2_reader.reading_of (picture_of width height) bytes room)
 unfolding words_as
 evt2_words_lem width height bytes room = refl
-
--- the words of the format that the code matched on
-module _ {format : Format} (width height : ℕ) (bytes : List ℕ) (room : ℕ) {old new : List ℕ} {r : Reading} where
-  pub reads_evt2 : format ≡ Evt2 → ReadAs (evt2_reader.reading_of (picture_of width height) bytes room) old new r
-      → ReadAs (words_as format width height bytes room) old new r
-  unfolding words_as
-  reads_evt2 e h = rw e (reads_as _ h)
-
-  pub reads_evt3 : format ≡ Evt3 → ReadAs (evt3_reader.reading_of (picture_of width height) bytes room) old new r
-      → ReadAs (words_as format width height bytes room) old new r
-  unfolding words_as
-  reads_evt3 e h = rw e (reads_as _ h)
 
 pub words_good : (format : Format) (width height : ℕ) (bytes : List ℕ) (room : ℕ) → AllGood (words_as format width height bytes room).rows
 unfolding words_as
@@ -54,15 +41,15 @@ words_within Evt3 width height bytes room =
     as_within _ (evt3_reader.reading_of p bytes room).ending (length bytes) (evt3.read_within p bytes room)
 
 -- the words from a place of a file on, read as a part of it
-module _ (format : Format) (width height : ℕ) (bytes : List ℕ) (at room : ℕ) (there : at ≤ length bytes) {old new : List ℕ} {r : Reading}
+module _ (format : Format) (width height : ℕ) (bytes : List ℕ) (at room : ℕ) (there : at ≤ length bytes) {old new : List ℕ} {r : Result ℕ ReadError}
     (h : ReadAs (words_as format width height (take (length bytes - at) (drop at bytes)) room) old new r) where
   from_data : ReadAs (words_as format width height (drop at bytes) room) old new r
   from_data = subst (λ (b : List ℕ). ReadAs (words_as format width height b room) old new r) (part_rest at bytes) h
 
-  pub reads_words : {x : Reading} → r ≡ x → ReadAs (run_from at (words_as format width height (drop at bytes) room)) old new (answer_from at x)
+  pub reads_words : {x : Result ℕ ReadError} → r ≡ x → ReadAs (run_from at (words_as format width height (drop at bytes) room)) old new (answer_from at x)
   reads_words e = reads_from from_data at e
 
-  pub place_within : {f : Fault} {n place : ℕ} → r ≡ Refused f n place → at + place ≤ length bytes
+  pub place_within : {x : ReadError} → r ≡ Err x → at + x.place ≤ length bytes
   place_within e =
       let inside = words_within format width height (drop at bytes) room in
       omega (arith, there, length-drop at bytes, reads_place from_data (length (drop at bytes)) inside e)

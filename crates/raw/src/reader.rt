@@ -3,18 +3,24 @@ ghost use Rattle.rows.specs.Row.{room_of};
 ghost use Rattle.rows.specs.Runs.{ReadAs};
 ghost use Rattle.raw.specs.Reader.{words_as, reading_of};
 
-use header::Header;
-use rows::Reading;
+use rows::ReadError;
 
 // Which words follow the header. The file itself is not asked.
-#[derive(Clone, Copy)]
+#[derive(Clone, Copy, Debug, PartialEq, Eq)]
 pub enum Format {
     Evt2,
     Evt3,
 }
 
 // Reads the words.
-fn read_words(bytes: &[u8], format: Format, width: u32, height: u32, rows: &mut [u32]) -> Reading
+#[tactic(auto, using(rows::proofs::Viewed::reads_as), unfolding(crate::specs::Reader::words_as))]
+fn read_words(
+    bytes: &[u8],
+    format: Format,
+    width: u32,
+    height: u32,
+    rows: &mut [u32],
+) -> Result<usize, ReadError>
     ensures { ReadAs (words_as format width height bytes.now (room_of rows.old)) rows.old rows.new result }
 {
     match format {
@@ -23,31 +29,15 @@ fn read_words(bytes: &[u8], format: Format, width: u32, height: u32, rows: &mut 
     }
 }
 
-// Reads a RAW file into rows.
-pub fn read(bytes: &[u8], format: Format, rows: &mut [u32]) -> Reading
+// Reads a RAW file into rows. The places of words count from the file's first byte.
+pub fn read(bytes: &[u8], format: Format, rows: &mut [u32]) -> Result<usize, ReadError>
     ensures { ReadAs (reading_of format bytes.now (room_of rows.old)) rows.old rows.new result }
 {
-    let header = header::read(bytes, 2048);
-    match header {
-        Header::Refused { fault, place } => Reading::Refused {
-            fault,
-            rows: 0,
-            place,
-        },
-        Header::Data { at, width, height } => {
-            let reading = read_words(&bytes[at..], format, width, height, rows);
-            match reading {
-                Reading::Finished { rows: n } => Reading::Finished { rows: n },
-                Reading::Refused {
-                    fault,
-                    rows: n,
-                    place,
-                } => Reading::Refused {
-                    fault,
-                    rows: n,
-                    place: at + place,
-                },
-            }
-        }
-    }
+    let header = header::read(bytes, 2048)?;
+    let data = &bytes[header.at..];
+    read_words(data, format, header.width, header.height, rows).map_err(|error| ReadError {
+        fault: error.fault,
+        rows: error.rows,
+        place: header.at + error.place,
+    })
 }

@@ -1,56 +1,68 @@
-// The reader: a loop over the words.
+// The reader: EVT3 words as words that a machine reads.
+ghost use Rattle.std.specs.Prelude.{refl};
 ghost use Rattle.rows.specs.Row.{room_of};
 ghost use Rattle.rows.specs.Runs.{ReadAs};
-ghost use Rattle.words.specs.Machine.{read_from};
 ghost use Rattle.words.specs.Picture.{picture_of};
 ghost use Rattle.evt3.specs.State.{fresh};
+ghost use Rattle.evt3.specs.Words.{kind_of};
 ghost use Rattle.evt3.specs.Reader.{machine, reading_of};
 
 use crate::kind::Kind;
 use crate::state::State;
-use rows::{Fault, ReadError};
-use words::{Picture, Stop};
+use rows::ReadError;
+use words::{Picture, Reader, Stop};
 
-// Reads the words of an input that is admitted.
-fn read_words(bytes: &[u8], picture: Picture, rows: &mut [u32]) -> Result<usize, ReadError>
-    ensures { ReadAs (read_from (machine picture) bytes.now fresh 0 (room_of rows.old)) rows.old rows.new result }
-{
-    let mut state = State::fresh();
-    let mut at: usize = 0;
-    let mut n: usize = 0;
-    while let Some(next) = words::first::<u16>(&bytes[at..]) {
-        let w = match next {
-            Ok(w) => w,
-            Err(fault) => {
-                return Err(ReadError {
-                    fault,
-                    rows: n,
-                    place: at,
-                });
-            }
-        };
-        let kind = Kind::from(w);
-        match state.give(kind, picture, w, rows, n) {
-            Ok(count) => n = count,
-            Err(Stop::Full) => {
-                return Err(ReadError {
-                    fault: Fault::NoRoom,
-                    rows: n,
-                    place: at,
-                });
-            }
-            Err(Stop::Refused(fault)) => {
-                return Err(ReadError {
-                    fault,
-                    rows: n,
-                    place: at,
-                });
-            }
-        }
-        state = state.after(kind, w);
-        at += 2;
+// Words of a picture.
+#[derive(Clone, Copy, Debug, PartialEq, Eq)]
+struct Stream {
+    picture: Picture,
+}
+
+impl Reader for Stream {
+    type Word = u16;
+
+    type State = State;
+
+    type Kind = Kind;
+
+    ghost machine = { λ stream. machine stream.picture };
+
+    ghost start = { fresh };
+
+    ghost kind_in = { λ stream state w. kind_of w };
+
+    ghost sized = { λ stream. refl };
+
+    fn fresh(&self) -> State {
+        State::fresh()
     }
-    Ok(n)
+
+    fn kind(&self, _state: State, w: u64) -> Kind {
+        Kind::from(w)
+    }
+
+    fn give(
+        &self,
+        state: State,
+        kind: Kind,
+        w: u64,
+        rows: &mut [u32],
+        n: usize,
+    ) -> Result<usize, Stop> {
+        state.give(kind, self.picture, w, rows, n)
+    }
+
+    fn next(&self, state: State, kind: Kind, _place: usize, w: u64) -> Option<State> {
+        state.next(kind, w)
+    }
+
+    fn is_pending(&self, _state: State) -> bool {
+        false
+    }
+
+    fn origin(&self, _state: State, at: usize) -> usize {
+        at
+    }
 }
 
 // Reads EVT3 words of a picture of `width` by `height` into rows.
@@ -63,5 +75,5 @@ pub fn read(bytes: &[u8], width: u32, height: u32, rows: &mut [u32]) -> Result<u
         rows: 0,
         place: 0,
     })?;
-    read_words(bytes, picture, rows)
+    words::read_words(&Stream { picture }, bytes, 0, rows)
 }

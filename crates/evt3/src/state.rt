@@ -1,5 +1,5 @@
 // What a reader knows between words, and what each kind of word does with it.
-ghost use Rattle.std.specs.Prelude.{◌≡◌, ◌<◌, ◌%◌, ◌/◌};
+ghost use Rattle.std.specs.Prelude.{◌≡◌, ◌<◌, ◌%◌, ◌/◌, MatchOption};
 ghost use Rattle.evt3.specs.State.{fresh, with_high, with_y, with_base, moved};
 ghost use Rattle.evt3.specs.declared.kind.Kind.TheVariants.{TimeHigh};
 ghost use Rattle.evt3.specs.Words.{drop_to, is_wrap, wraps_at, goes_back, bad_high, with_low, next_as};
@@ -169,24 +169,24 @@ impl State {
         }
         self
     }
-    // The state after a word of a kind that is not refused. ADDR_X does not move the base.
-    pub(crate) fn after(self, kind: Kind, w: u64) -> State
+    // The state after a word of a kind that is not refused, or none where it sets nothing: ADDR_X does not move the base.
+    pub(crate) fn next(self, kind: Kind, w: u64) -> Option<State>
         requires { kind ≡ TimeHigh → wraps_at self (w % 4096) < 1024 }
-        ensures { result ≡ next_as kind self w }
+        ensures { MatchOption result (next_as kind self w ≡ self) (λ t. t ≡ next_as kind self w) }
     {
         match kind {
-            Kind::AddrY => self.addr_y(w),
-            Kind::VectBaseX => self.vect_base_x(w),
-            Kind::Vect12 => self.moved(12),
-            Kind::Vect8 => self.moved(8),
-            Kind::TimeLow => self.time_low(w),
-            Kind::TimeHigh => self.time_high(w),
+            Kind::AddrY => Some(self.addr_y(w)),
+            Kind::VectBaseX => Some(self.vect_base_x(w)),
+            Kind::Vect12 => Some(self.moved(12)),
+            Kind::Vect8 => Some(self.moved(8)),
+            Kind::TimeLow => Some(self.time_low(w)),
+            Kind::TimeHigh => Some(self.time_high(w)),
             Kind::AddrX
             | Kind::ExtTrigger
             | Kind::Continued4
             | Kind::Others
             | Kind::Continued12
-            | Kind::Reserved => self,
+            | Kind::Reserved => None,
         }
     }
 }

@@ -10,9 +10,9 @@ use lib.Dec.{leb, eqb}
 use borrow.Author.Tests.{le-leb, lt-leb, ne_eqb, leb-true}
 use Rattle.rows.proofs.GoodRows.{and_second}
 use Rattle.std.proofs.Common.{Option, Some, None}
+use Rattle.std.proofs.lemmas.List.{at_drop_more}
 use Rattle.header.specs.Sides.{is_digit, digit_of, are_digits, decimal, number_of, spaced, value_of}
 use Rattle.rows.proofs.Chosen.{cond_holds}
-use Rattle.header.proofs.LineEnds.{drop_at}
 
 -- ten to the power of i
 unfoldable pub tens : ℕ → ℕ
@@ -72,7 +72,7 @@ module _ {d : List ℕ} {n i : ℕ} (h : Counted d n i) where
 
   here : i < length d → are_digits d ≡ is_digit (get_or d i 0) && are_digits (drop (i + 1) d)
   unfolding are_digits
-  here p = h.digits ∙ ap are_digits (drop_at d i p)
+  here p = h.digits ∙ at_drop_more are_digits d i 0 p
 
   module _ (p : i < length d) where
     -- a byte that is no digit
@@ -92,7 +92,7 @@ module _ {d : List ℕ} {n i : ℕ} (h : Counted d n i) where
       counted_next =
           record {
             digits = here p ∙ ap (λ (b : Bool). b && are_digits (drop (i + 1) d)) digit.is;
-            same = h.same ∙ ap (decimal n) (drop_at d i p) ∙ ap (λ (m : ℕ). decimal (n * 10 + m) (drop (i + 1) d)) (sym digit.value);
+            same = h.same ∙ at_drop_more (decimal n) d i 0 p ∙ ap (λ (m : ℕ). decimal (n * 10 + m) (drop (i + 1) d)) (sym digit.value);
             small = rw (add-one i) (omega (arith, h.small, digit.small));
           }
 

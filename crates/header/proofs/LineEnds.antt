@@ -1,5 +1,5 @@
 -- The end of a line, by the place of the first newline.
-use Rattle.std.proofs.Common.{drop, get_or, add-one, drop-cons, ◌≡◌, refl, sym, ◌∙◌, subst, ℕ, zero, suc, ◌+◌, ◌≤◌, ◌<◌, Bool, true, false, cond, ◌&&◌, List, [], ◌∷◌, length, take, leb, ltb, eqb, arith, not, Result, Ok, Err, Some, None}
+use Rattle.std.proofs.Common.{◌≡◌, refl, sym, ◌∙◌, subst, ℕ, zero, suc, ◌+◌, ◌≤◌, ◌<◌, Bool, true, false, cond, ◌&&◌, List, [], ◌∷◌, length, take, leb, ltb, eqb, arith, not, Result, Ok, Err, Some, None}
 use Rattle.std.specs.List.{position, position_or_len}
 use Rattle.std.specs.Cmp.Lexicographic.{pointwise}
 use Rattle.std.proofs.lemmas.Bool.Decides.{nat_tests}
@@ -9,10 +9,6 @@ use borrow.Author.Tests.{eqb-true}
 use Rattle.rows.proofs.GoodRows.{and_first, and_second}
 use Rattle.rows.proofs.Chosen.{cond_holds}
 use Rattle.header.specs.Lines.{is_line, line_end}
-
--- what is left of a text from one of its bytes on
-pub drop_at : (b : List ℕ) (i : ℕ) → i < length b → drop i b ≡ get_or b i 0 ∷ drop (i + 1) b
-drop_at b i h = rw add-one (drop-cons b i 0 h)
 
 abbrev pub newline : ℕ → Bool
 newline c = eqb c 10

@@ -7,7 +7,3 @@ same_as f [] [] = true
 same_as f [] (d ∷ u) = false
 same_as f (c ∷ t) [] = false
 same_as f (c ∷ t) (d ∷ u) = eqb (f c) d && same_as f t u
-
--- as they are
-abbrev pub itself : ℕ → ℕ
-itself c = c

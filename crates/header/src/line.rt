@@ -5,6 +5,7 @@ ghost use Rattle.header.specs.Lines.{is_line, line_end};
 use rows::Fault;
 
 // Whether a line of the header stands at the front: a percent sign and a space.
+#[tactic(auto, using(crate::proofs::LineEnds::line_starts))]
 pub(crate) fn is_line(bytes: &[u8]) -> bool
     ensures { result ≡ is_line bytes.now }
 {

@@ -21,7 +21,7 @@ pub struct HeaderError {
     pub place: usize,
 }
 
-// The answer as four numbers: refusal 0 and where the data begin, or the refusal, its place and no sides.
+// The answer as four numbers, as the C interface has it: refusal 0 and where the data begin, or the refusal, its place and no sides.
 #[repr(C)]
 #[derive(Clone, Copy, Debug, PartialEq, Eq)]
 pub struct HeaderNumbers {

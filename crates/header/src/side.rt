@@ -45,7 +45,7 @@ fn side_of(keyword: &[u8]) -> Option<Side>
 fn may_be(before: Option<u32>, n: u32, limit: u32) -> bool
     ensures { result ≡ may_be limit before n }
 {
-    before.is_none() && 1 <= n && n <= limit
+    before.is_none() && (1..=limit).contains(&n)
 }
 
 impl Sides {

@@ -1,5 +1,5 @@
 -- What judging one row after another says of a list that is to be written.
-use mathlib.Core.Path.{◌≡◌, refl, sym, ◌∙◌, ap, subst}
+use mathlib.Core.Path.{◌≡◌, refl, sym, ◌∙◌, ap}
 use Prim.Native.Nat.{ℕ, suc, ◌+◌, ◌-◌, ◌*◌, ◌%◌, ◌≤◌, ◌<◌}
 use native.Mathlib.Numerals.{add-one}
 use native.Mathlib.Omega.{arith}
@@ -7,7 +7,7 @@ use mathlib.Core.Bool.{Bool, true, false, cond, ◌&&◌}
 use mathlib.Core.List.{List, [], ◌∷◌}
 use lib.ListN.{length}
 use lib.Dec.{ltb, eqb}
-use borrow.Author.Tests.{lt-ltb, le-ltb, ltb-false, eqb-true, leb-true}
+use borrow.Author.Tests.{le-ltb, ltb-false, eqb-true, leb-true}
 use Rattle.rows.specs.declared.fault.Fault.{Fault}
 use Rattle.rows.specs.declared.fault.Fault.TheVariants.{BadTime, BadRow, BadList}
 use Rattle.rows.specs.declared.row.Row.{Row}
@@ -25,22 +25,6 @@ whole_rows l g = eqb-true _ _ (and_first (eqb (length l % 10) 0) _ g)
 pub few_rows : (l : List ℕ) → good_length (length l) ≡ true → room_of l ≤ 16777216
 unfolding good_length
 few_rows l g = leb-true _ _ (and_second (eqb (length l % 10) 0) _ g)
-
--- a row is judged by an answer to whether it is good, joined with whether the format can write it
-module _ (r : Row) {answer good : Bool} (writable : Bool) (last : ℕ) (e : answer ≡ good) where
-  joined : {b : Bool} → answer && writable ≡ b → good && writable ≡ b
-  joined {b} h = subst (λ (g : Bool). g && writable ≡ b) e h
-
-  pub judged_bad : answer && writable ≡ false → Err BadRow ≡ judged_by good writable r last
-  judged_bad h = simp (joined h)
-
-  -- where both are so, by its time t
-  module _ {t : ℕ} (h : answer && writable ≡ true) (is : t ≡ time_of r) where
-    pub judged_back : t < last → Err BadTime ≡ judged_by good writable r last
-    judged_back l = simp (joined h, lt-ltb (time_of r) last (subst (λ (k : ℕ). k < last) is l))
-
-    pub judged_time : last ≤ t → Ok t ≡ judged_by good writable r last
-    judged_time l = simp (joined h, le-ltb (time_of r) last (subst (λ (k : ℕ). last ≤ k) is l)) (ap Ok is)
 
 -- the rules of a row's own kind are those of the row
 judged_own : (r : Row) (writable : Bool) (last : ℕ) {k : Kind} → kind_of r.kind ≡ k → judged_as k writable r last ≡ judged_of writable r last

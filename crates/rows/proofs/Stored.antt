@@ -10,7 +10,7 @@ use lib.Seq.{sets, length-sets, sets-eq, paste, take-length}
 use lib.Dec.{ltb}
 use borrow.Rule.Slice.PartMut.{put_mid}
 use Rattle.std.proofs.lemmas.Slice.{put_mid-paste}
-use borrow.Author.Tests.{lt-ltb, le-ltb, ltb-true, ltb-false}
+use borrow.Author.Tests.{ltb-true, ltb-false}
 use Rattle.rows.specs.declared.row.Row.{Row}
 use Rattle.rows.specs.Row.{numbers, flat, over, room_of, PutRow}
 
@@ -45,12 +45,6 @@ pub part_written : (l : List ℕ) (at k : ℕ) (held s : List ℕ) → held ≡ 
 part_written l at k held s e h f = put_mid-paste at k l held s (length s) e (sym h) refl ∙ paste_all l at s (length s) (omega arith) (omega arith) f
 
 module _ {old : List ℕ} {i : ℕ} {row : Row} where
-  pub put_row_none : room_of old ≤ i → PutRow old i row old false
-  put_row_none h = record { fits = sym (le-ltb _ _ h); wrote = rw (le-ltb _ _ h) }
-
-  pub put_row_done : {new : List ℕ} → i < room_of old → new ≡ sets old (i * 10) (numbers row) → PutRow old i row new true
-  put_row_done h e = record { fits = sym (lt-ltb _ _ h); wrote = rw (lt-ltb _ _ h) e }
-
   -- what the answer says
   pub put_row_fits : {new : List ℕ} {r : Bool} → PutRow old i row new r → r ≡ true → (i < room_of old) × (new ≡ sets old (i * 10) (numbers row))
   put_row_fits {new} {r} h e =

@@ -127,16 +127,23 @@ pub fn get(rows: &[u32], i: usize) -> Option<Row>
     None
 }
 
-// Writes row i of a list and answers true; where there is no room for it, touches nothing and answers false.
+// Writes row i of a list and answers true; where there is no room for it, touches nothing and answers false. Ten stores: a copy of an
+// array of the numbers would wait until they are in it.
 pub fn put(rows: &mut [u32], i: usize, row: Row) -> bool
     ensures { PutRow rows.old i row rows.new result }
 {
     if i < room(rows) {
-        let numbers = [
-            row.kind, row.low, row.high, row.a, row.b, row.c, row.d, row.e, row.f, row.g,
-        ];
         let at = i * 10;
-        rows[at..at + 10].copy_from_slice(&numbers);
+        rows[at] = row.kind;
+        rows[at + 1] = row.low;
+        rows[at + 2] = row.high;
+        rows[at + 3] = row.a;
+        rows[at + 4] = row.b;
+        rows[at + 5] = row.c;
+        rows[at + 6] = row.d;
+        rows[at + 7] = row.e;
+        rows[at + 8] = row.f;
+        rows[at + 9] = row.g;
         return true;
     }
     false

@@ -16,7 +16,7 @@ use Rattle.rows.specs.declared.row.Row.{Row}
 use Rattle.rows.specs.Row.{flat, room_of}
 use Rattle.rows.specs.Runs.{finished, refused, Run, give, ReadAs, Did}
 use Rattle.rows.proofs.Sequence.{give_then}
-use Rattle.rows.proofs.Sofar.{Sofar, sofar_none, sofar_start, sofar_ends, sofar_give, sofar_full, sofar_length, sofar_room, did_reads}
+use Rattle.rows.proofs.Sofar.{Sofar, sofar_none, sofar_start, sofar_ends, sofar_give, sofar_full, sofar_room, did_reads}
 use Rattle.words.specs.Words.{Words, word, first_of, words_of, next_at}
 use Rattle.words.specs.declared.Stop.{Stop}
 use Rattle.words.specs.declared.Stop.TheVariants as stop
@@ -40,9 +40,6 @@ module _ {S : Type 0} (m : Machine S) (bytes : List ℕ) (s : S) (from : ℕ) (o
 
 module _ {S : Type 0} {m : Machine S} {bytes : List ℕ} {whole : Run (Reached S)} {old : List ℕ} {n₀ : ℕ} {s : S} {at n : ℕ} {buf : List ℕ}
     (h : Between m bytes whole old n₀ s at n buf) where
-  pub between_length : length buf ≡ length old
-  between_length = sofar_length h.sofar
-
   pub between_room : n ≤ room_of buf
   between_room = omega (arith, h.sofar.fits, sofar_room h.sofar)
 

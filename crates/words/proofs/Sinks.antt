@@ -1,18 +1,14 @@
 -- Words put one after the other into a sink.
 use mathlib.Core.Path.{◌≡◌, refl, sym, ◌∙◌, ap, subst}
-use Prim.Native.Nat.{ℕ, ◌+◌, ◌*◌, ◌/◌, ◌≤◌, ◌<◌}
+use Prim.Native.Nat.{ℕ, ◌+◌, ◌*◌, ◌/◌, ◌≤◌}
 use native.Mathlib.Omega.{arith}
-use native.Mathlib.Nat.{add-mul, le-div_iff_mul-le}
+use native.Mathlib.Nat.{add-mul}
 use mathlib.Core.Bool.{Bool, true, false}
 use mathlib.Core.List.{List, [], ◌∷◌, ◌++◌, append_assoc, append-nil}
 use lib.ListN.{length, length-append}
 use Rattle.words.specs.Writer.{PutWords}
 use Rattle.words.specs.Sinks.{room, Put}
 use Rattle.words.proofs.Writes as words
-
--- room for words, in bytes
-pub room_bytes : (size : ℕ) → 0 < size → (n m : ℕ) → n ≤ m / size → n * size ≤ m
-room_bytes size some n m h = (le-div_iff_mul-le some).0 h
 
 module _ {size : ℕ} where
   -- what is written, as the words' own promise says it

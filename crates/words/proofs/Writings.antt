@@ -1,5 +1,5 @@
 -- What a writer answers, case by case, once its rows were judged and their words counted.
-use mathlib.Core.Path.{◌≡◌, refl, sym, ◌∙◌, ap}
+use mathlib.Core.Path.{◌≡◌, refl, sym, ◌∙◌}
 use Prim.Native.Nat.{ℕ, ◌*◌, ◌/◌, ◌≤◌, ◌<◌}
 use native.Mathlib.Omega.{arith}
 use native.Mathlib.Nat.{le-div_iff_mul-le, div-lt_iff_lt-mul}
@@ -13,14 +13,12 @@ use Rattle.std.specs.Prelude.{Result, Ok, Err}
 use Rattle.rows.specs.declared.fault.Fault.{Fault}
 use Rattle.rows.specs.declared.fault.Fault.TheVariants.{NoRoom, BadList}
 use Rattle.rows.specs.declared.fault.WriteError.{WriteError}
-use Rattle.rows.specs.declared.fault.WritingNumbers.{WritingNumbers}
-use Rattle.rows.specs.Fault.{writing_numbers}
 use Rattle.rows.specs.Row.{rows_of}
 use Rattle.rows.specs.Rules.{Verdict, accepted, refused, verdict_from, good_length, verdict_of}
 use Rattle.rows.proofs.Judging.{bad_list, good_list}
 use Rattle.rows.proofs.Stored.{sets_over}
 use Rattle.words.specs.Words.{bytes_of_all}
-use Rattle.words.specs.Writer.{Spelling, spelled, writing_verdict, writing_of, WroteAs, WroteNumbers}
+use Rattle.words.specs.Writer.{Spelling, spelled, writing_verdict, writing_of, WroteAs}
 use Rattle.words.specs.Promises.{RoomExact}
 use Rattle.words.proofs.Writes.{all_length}
 
@@ -96,7 +94,3 @@ room_exact s l bytes e =
     only : (t : Bool) → leb (length (spelled s l) * s.size) bytes ≡ t → cond t accepted (refused NoRoom 0) ≡ refused NoRoom 0 → bytes < length (spelled s l) * s.size
     only true f g = let z : ◌≡◌ {A = ℕ} 0 1 = cc in absurd (omega arith)
     only false f g = leb-false _ _ f
-
--- the same answer as numbers
-pub writes_numbers : {s : Spelling} {l old new : List ℕ} {r : Result ℕ WriteError} {n : WritingNumbers} → WroteAs s l old new r → n ≡ writing_numbers r → WroteNumbers s l old new n
-writes_numbers h e = record { answer = e ∙ ap writing_numbers h.answer; wrote = h.wrote }

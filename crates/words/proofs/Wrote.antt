@@ -1,23 +1,23 @@
 -- What a function that writes a word's rows has done, case by case.
-use mathlib.Core.Path.{◌≡◌, refl, sym, ◌∙◌, ap, subst}
+use mathlib.Core.Path.{◌≡◌, refl, sym, ap, subst}
 use Prim.Native.Nat.{ℕ, ◌+◌, ◌*◌, ◌≤◌, ◌<◌}
 use native.Mathlib.Omega.{arith}
 use mathlib.Core.Bool.{Bool, true, false, cond}
 use mathlib.Core.List.{List, [], ◌∷◌}
 use lib.ListN.{length}
-use lib.Seq.{sets, length-sets}
+use lib.Seq.{sets}
 use lib.Dec.{leb}
 use borrow.Author.Tests.{le-leb, lt-leb, leb-true, leb-false}
 use Rattle.std.specs.Prelude.{Result, Ok, Err}
 use Rattle.rows.specs.declared.fault.Fault.{Fault}
 use Rattle.rows.specs.declared.row.Row.{Row}
 use Rattle.rows.specs.Row.{flat, room_of, PutRow}
-use Rattle.rows.proofs.Stored.{put_row_fits, put_row_full}
+use Rattle.rows.proofs.Stored.{put_row_fits}
 use Rattle.words.specs.declared.Stop.{Stop}
 use Rattle.words.specs.declared.Stop.TheVariants.{Full, Refused}
 use Rattle.words.specs.Machine.{Outcome, next, fault, Given, gives, refuses, onto}
 pub use Rattle.words.specs.Written.{next_of}
-use Rattle.words.specs.Written.{given_of, IsGiven, GaveAs}
+use Rattle.words.specs.Written.{given_of, GaveAs}
 
 -- an outcome is what it gives with its next state, and any state where it is refused
 pub given_onto : {S : Type 0} (g : Given) (s : S) → given_of (onto g s) ≡ g
@@ -64,9 +64,6 @@ module _ {row : Row} {n : ℕ} {old buf : List ℕ} {r : Bool} (put : PutRow old
   pub gave_put : r ≡ true → GaveAs (gives (row ∷ [])) n old buf (Ok (n + 1))
   gave_put t = gave_rows (row ∷ []) n (omega (arith, (put_row_fits put t).0)) (put_row_fits put t).1 refl
 
-  pub gave_not_put : r ≡ false → GaveAs (gives (row ∷ [])) n old buf (Err Full)
-  gave_not_put t = rw (put_row_full put t).1 (gave_full (row ∷ []) n (omega (arith, (put_row_full put t).0)))
-
 -- one row that another function made, by words::give
 pub gave_row : {row made : Row} → made ≡ row → {n : ℕ} {old buf : List ℕ} {r : Result ℕ Stop} → GaveAs (gives (made ∷ [])) n old buf r → GaveAs (gives (row ∷ [])) n old buf r
 gave_row e {n} {old} {buf} {r} h = subst (λ (q : Row). GaveAs (gives (q ∷ [])) n old buf r) e h
@@ -87,11 +84,6 @@ gave_all (gives new) {n} {old} {buf} {k} h = go (leb (n + length new) (room_of o
         → WroteAll (gives new) n old buf k
     go true e a b = record { new = new; given = refl; count = sym (same_rows a); fits = leb-true _ _ e; wrote = b }
     go false e a b = no_stop (sym a)
-
--- a word that gave rows is not refused
-pub is_given : {g : Given} {n : ℕ} {old buf : List ℕ} {r : Result ℕ Stop} {k : ℕ} → GaveAs g n old buf r → r ≡ Ok k → IsGiven g
-is_given {g} {n} {old} {buf} {r} {k} h e =
-    subst IsGiven (sym (gave_all g (subst (GaveAs g n old buf) e h)).given) tt
 
 -- a refusal of the word's own
 pub gave_fault : (g : Given) {n : ℕ} {old buf : List ℕ} {f : Fault} → GaveAs g n old buf (Err (Refused f)) → (g ≡ refuses f) × (buf ≡ old)
@@ -117,12 +109,3 @@ gave_nothing (gives new) {n} {old} {buf} h = go (leb (n + length new) (room_of o
         → WroteNone (gives new) n old buf
     go true e a b = no_stop a
     go false e a b = record { new = new; given = refl; full = leb-false _ _ e; wrote = b }
-
--- the length stays
-pub gave_length : (g : Given) {n : ℕ} {old buf : List ℕ} {r : Result ℕ Stop} → GaveAs g n old buf r → length buf ≡ length old
-gave_length (refuses f) h = ap length h.wrote
-gave_length (gives new) {n} {old} {buf} {r} h = ap length h.wrote ∙ go (leb (n + length new) (room_of old))
-  where
-    go : (t : Bool) → length (cond t (sets old (n * 10) (flat new)) old) ≡ length old
-    go true = length-sets old (n * 10) (flat new)
-    go false = refl

@@ -43,7 +43,8 @@ pub enum Stop {
     Refused(Fault),
 }
 
-// One row after the n that are in the slice, if there is room for it: so many are finished then.
+// One row after the n that are in the slice, if there is room for it: so many are finished then. The slice and n stay two parameters here and
+// in the formats: as one struct they were tried, and took a tenth of their speed from single EVT3 pixels.
 pub fn give(rows: &mut [u32], n: usize, row: Row) -> Result<usize, Stop>
     ensures { GaveAs (gives (row ∷ [])) n rows.old rows.new result }
 {

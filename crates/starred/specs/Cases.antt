@@ -1,9 +1,8 @@
 -- The cases that 01 marks with a star, as one list: an input, and what is seen of it.
-use Rattle.std.specs.Prelude.{◌≡◌, ℕ, Bool, true, cond, List, [], ◌∷◌, ◌++◌, eqb, pos, negsuc, Float}
+use Rattle.std.specs.Prelude.{◌≡◌, ℕ, Bool, true, cond, List, [], ◌∷◌, ◌++◌, eqb, pos, negsuc, Some, Result, Ok, Err, Float}
 use Rattle.std.specs.Float.{binary32}
 use Rattle.std.specs.Float.Ieee.{of_int}
-use Rattle.events.specs.declared.event.Conversion.{Conversion}
-use Rattle.events.specs.declared.event.Conversion.TheVariants.{Turned, Refused}
+use Rattle.events.specs.declared.event.Event.{Event}
 use Rattle.rows.specs.declared.fault.Fault.{Fault}
 use Rattle.rows.specs.declared.row.Row.{Row}
 use Rattle.events.specs.Event.{event_of, plus_zero, readings_of}
@@ -51,9 +50,9 @@ pub record Seen : Type 0 where
   pub readings : List Float
 
 -- the readings of an IMU row, kind 3 or 4, as its event carries them; no other row has any
-abbrev pub event_readings : Conversion → List Float
-event_readings (Turned e) = readings_of e
-event_readings (Refused f) = []
+abbrev pub event_readings : Result Event Fault → List Float
+event_readings (Ok e) = readings_of e
+event_readings (Err f) = []
 
 abbrev pub row_readings : Row → List Float
 row_readings r = cond (eqb r.kind 3) (event_readings (event_of r)) (cond (eqb r.kind 4) (event_readings (event_of r)) [])
@@ -178,7 +177,7 @@ star_cases =
       seen =
           record {
             rows = pixel_row 2147483655 5 3 1 ∷ [];
-            final = aedat_ends (record { special = 0; polarity = 2147483655; imu = 0; source = 0; known = true });
+            final = aedat_ends (record { special = 0; polarity = 2147483655; imu = 0; source = Some 0 });
             readings = [];
           };
     }

@@ -1,83 +1,74 @@
-// The reader: a loop over the words.
+// The reader: EVT2 words as a machine, which the loop of crate `words` runs.
+ghost use Rattle.std.specs.Prelude.{refl};
 ghost use Rattle.rows.specs.Row.{room_of};
 ghost use Rattle.rows.specs.Runs.{ReadAs};
-ghost use Rattle.words.specs.Machine.{read_from};
 ghost use Rattle.words.specs.Picture.{picture_of};
 ghost use Rattle.evt2.specs.State.{fresh};
+ghost use Rattle.evt2.specs.Words.{kind_in};
 ghost use Rattle.evt2.specs.Reader.{machine, reading_of};
 
 use crate::kind::Kind;
 use crate::state::State;
-use rows::{Fault, ReadError};
-use words::{Picture, Stop};
+use rows::ReadError;
+use words::{Picture, Reader, Stop};
 
-// Reads the words of an input that is admitted.
-fn read_words(bytes: &[u8], picture: Picture, rows: &mut [u32]) -> Result<usize, ReadError>
-    ensures { ReadAs (read_from (machine picture) bytes.now fresh 0 (room_of rows.old)) rows.old rows.new result }
-{
-    let mut state = State::fresh();
-    let mut at: usize = 0;
-    let mut n: usize = 0;
-    while let Some(next) = words::first::<u32>(&bytes[at..]) {
-        let w = match next {
-            Ok(w) => w,
-            Err(fault) => {
-                return Err(ReadError {
-                    fault,
-                    rows: n,
-                    place: state.origin(at),
-                });
-            }
-        };
-        let kind = state.kind(w);
-        match state.give(kind, picture, w, rows, n) {
-            Ok(count) => n = count,
-            Err(Stop::Full) => {
-                return Err(ReadError {
-                    fault: Fault::NoRoom,
-                    rows: n,
-                    place: state.origin(at),
-                });
-            }
-            // a stray word is at fault itself, and not its group
-            Err(Stop::Refused(fault)) => {
-                return Err(ReadError {
-                    fault,
-                    rows: n,
-                    place: at,
-                });
-            }
-        }
-        let place = at;
-        at += 4;
-        // An arm for each kind ends the turn, since one path for all is half as fast.
+// EVT2 words of a picture.
+#[derive(Clone, Copy)]
+struct Words {
+    picture: Picture,
+}
+
+impl Reader for Words {
+    type Word = u32;
+
+    type State = State;
+
+    type Kind = Kind;
+
+    ghost machine = { λ words. machine words.picture };
+
+    ghost start = { fresh };
+
+    ghost kind_in = { λ words state w. kind_in state w };
+
+    ghost sized = { λ words. refl };
+
+    fn fresh(&self) -> State {
+        State::fresh()
+    }
+
+    fn kind(&self, state: State, w: u64) -> Kind {
+        state.kind(w)
+    }
+
+    fn give(
+        &self,
+        state: State,
+        kind: Kind,
+        w: u64,
+        rows: &mut [u32],
+        n: usize,
+    ) -> Result<usize, Stop> {
+        state.give(kind, self.picture, w, rows, n)
+    }
+
+    fn next(&self, state: State, kind: Kind, place: usize, w: u64) -> Option<State> {
         match kind {
-            Kind::TimeHigh => {
-                state = state.time_high(w);
-                continue;
-            }
-            Kind::ImuEvt => {
-                state = state.imu_evt(place, w);
-                continue;
-            }
-            Kind::Inside => {
-                state = state.further(w);
-                continue;
-            }
-            // the other kinds set nothing
-            _ => {
-                continue;
-            }
+            Kind::TimeHigh => Some(state.time_high(w)),
+            Kind::ImuEvt => Some(state.imu_evt(place, w)),
+            Kind::Inside => Some(state.further(w)),
+            // The other kinds set nothing.
+            _ => None,
         }
     }
-    if state.is_pending() {
-        return Err(ReadError {
-            fault: Fault::Cut,
-            rows: n,
-            place: state.origin(at),
-        });
+
+    fn is_pending(&self, state: State) -> bool {
+        state.is_pending()
     }
-    Ok(n)
+
+    fn origin(&self, state: State, at: usize) -> usize {
+        state.origin(at)
+    }
 }
 
 // Reads EVT2 words of a picture of `width` by `height` into rows.
@@ -90,5 +81,5 @@ pub fn read(bytes: &[u8], width: u32, height: u32, rows: &mut [u32]) -> Result<u
         rows: 0,
         place: 0,
     })?;
-    read_words(bytes, picture, rows)
+    words::read_words(&Words { picture }, bytes, 0, rows)
 }

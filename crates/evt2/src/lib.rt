@@ -17,12 +17,13 @@
 // list of rows is written as.
 #![tactic(auto)]
 
-mod given;
+mod group;
 mod kind;
 mod reader;
 mod state;
 mod writer;
 
+pub use group::Group;
 pub use kind::Kind;
 pub use reader::read;
 pub use state::State;

@@ -53,13 +53,7 @@ impl Reader for Words {
     }
 
     fn next(&self, state: State, kind: Kind, place: usize, w: u64) -> Option<State> {
-        match kind {
-            Kind::TimeHigh => Some(state.time_high(w)),
-            Kind::ImuEvt => Some(state.imu_evt(place, w)),
-            Kind::Inside => Some(state.further(w)),
-            // The other kinds set nothing.
-            _ => None,
-        }
+        state.next(kind, place, w)
     }
 
     fn is_pending(&self, state: State) -> bool {

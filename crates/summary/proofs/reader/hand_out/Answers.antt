@@ -1,7 +1,6 @@
 -- `summary::reader::hand_out` meets its contract: the numbers of the blocks so far are put, and with the others the buffer becomes what it is to be.
-use Rattle.std.proofs.Common.{◌∙◌, ◌+◌, ◌-◌, ◌*◌, ap, arith}
-use Rattle.rows.proofs.Stored.{part_written}
-use Rattle.summary.specs.Blocks.{ten_of}
+use Rattle.std.proofs.Common.{◌∙◌, ◌*◌, ap, arith}
+use Rattle.std.proofs.lemmas.List.Edits.{sets}
 use Rattle.summary.specs.Reader.{front_blocks}
 use Rattle.summary.proofs.HandedOut.{hand_next, hand_full, hand_done, front_found, front_none}
 use Rattle.summary.proofs.reader.hand_out.Goals as goal
@@ -14,9 +13,8 @@ returns-in_default-field c = hand_done c.loop-j.invariant (ap front_blocks (fron
 
 pub loop-j-preserved : goal.loop-j-preserved
 loop-j-preserved c =
-    let at = c.loop-j.j * 10 in
     hand_next c.loop-j.invariant c.in-Some.after.now (front_found _ c.next_field.ensures.same c.in-Some.ensures c.in-Block.is)
-    (part_written c.loop-j.out at (at + 10 - at) c.copy_from_slice.new.self (ten_of c.in-Block.block) (c.copy_from_slice.ensures.after ∙ c.numbers.ensures) (omega arith) (omega (arith, c.loop-j.invariant.long)))
+    (c.put_ten.ensures ∙ ap (sets c.loop-j.out (c.loop-j.j * 10)) c.numbers.ensures)
 
 pub returns : goal.returns
 returns c = hand_full c.loop-j.invariant (omega arith)

@@ -1,10 +1,12 @@
 -- Words put one after the other into a sink.
 use mathlib.Core.Path.{◌≡◌, refl, sym, ◌∙◌, ap, subst}
-use Prim.Native.Nat.{ℕ, ◌+◌, ◌*◌, ◌/◌, ◌≤◌}
+use Prim.Native.Nat.{ℕ, suc, ◌+◌, ◌*◌, ◌/◌, ◌%◌, ◌≤◌}
 use native.Mathlib.Omega.{arith}
 use mathlib.Core.Bool.{Bool, true, false}
 use mathlib.Core.List.{List, [], ◌∷◌, ◌++◌, append_assoc, append-nil}
-use lib.ListN.{length, length-append}
+use lib.ListN.{length, set, length-append}
+use lib.Seq.{sets}
+use Rattle.words.specs.Words.{bytes_of}
 use Rattle.words.specs.Writer.{PutWords}
 use Rattle.words.proofs.Writes as words
 use Rattle.evt3.specs.Sinks.{room, Put}
@@ -16,9 +18,14 @@ written h = record { place = omega (arith, h.place); wrote = h.wrote }
 writes : {ws old new : List ℕ} {at r : ℕ} → r ≡ at + length ws → PutWords 2 ws old (2 * at) new (2 * r) → Put true ws old at new r
 writes e h = record { place = e; wrote = h.wrote }
 
--- one word
-pub stored_word : {out new : List ℕ} {at w r : ℕ} → PutWords 2 (w ∷ []) out (2 * at) new r → Put true (w ∷ []) out at new (at + 1)
-stored_word h = record { place = refl; wrote = h.wrote }
+-- one word, byte by byte
+stored_two : (l : List ℕ) (at w : ℕ) → set (set l at (w % 256)) (at + 1) (w / 256 % 256) ≡ sets l at (bytes_of 2 w)
+unfolding bytes_of
+stored_two l at w = let e : at + 1 ≡ suc at = omega arith in rw e
+
+pub stored_word : (out : List ℕ) (at w : ℕ) → Put true (w ∷ []) out at (set (set out (2 * at) (w % 256)) (2 * at + 1) (w / 256 % 256)) (at + 1)
+stored_word out at w =
+    record { place = refl; wrote = stored_two out (2 * at) w ∙ ap (sets out (2 * at)) (sym (append-nil (bytes_of 2 w))) }
 
 pub counted_word : (out : List ℕ) (at w : ℕ) → Put false (w ∷ []) out at out (at + 1)
 counted_word out at w = record { place = refl; wrote = refl }

@@ -2,8 +2,6 @@
 ghost use Rattle.std.specs.Prelude.{Bool, true, false, ◌<◌, [], ◌∷◌};
 ghost use Rattle.evt3.specs.Sinks.{room, Put};
 
-use words::put_word;
-
 // A place for words, the first of which is word 0.
 pub(crate) trait Sink {
     // Whether words are written into the slice.
@@ -24,9 +22,11 @@ pub(crate) struct Counted;
 impl Sink for Written {
     ghost writes = { true };
 
+    // `put_word` of `words`, which takes a part of the slice, took a third more instructions for single pixels.
     #[tactic(auto, using(crate::proofs::Sinks::stored_word))]
     fn word(out: &mut [u8], at: usize, word: u64) -> usize {
-        put_word::<u16>(out, 2 * at, word);
+        out[2 * at] = (word % 256) as u8;
+        out[2 * at + 1] = (word / 256 % 256) as u8;
         at + 1
     }
 }

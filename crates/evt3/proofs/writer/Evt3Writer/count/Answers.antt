@@ -1,12 +1,12 @@
--- `evt3::writer::count` meets its contract.
+-- `evt3::writer::Evt3Writer::count` meets its contract.
 use Rattle.evt3.proofs.RowSteps.{none_found, counts_start, counts_done, counts_refused, counts_next, span_room, row_room}
 use Rattle.rows.proofs.Lists.{row_found}
 use Rattle.rows.specs.Row.{room_of, row_from}
 use Prim.Native.Nat.{◌*◌, ◌<◌, ◌≤◌}
 use native.Mathlib.Omega.{arith}
 use mathlib.Core.Path.{◌≡◌, sym, ◌∙◌}
-use Rattle.evt3.proofs.writer.count.Goals as goal
-use Rattle.evt3.proofs.writer.count.Goals.{In-Some, In_default}
+use Rattle.evt3.proofs.writer.Evt3Writer.count.Goals as goal
+use Rattle.evt3.proofs.writer.Evt3Writer.count.Goals.{In-Some, In_default}
 
 here : (d : In-Some) → (d.loop-row.i < room_of d.args.rows.now) × (d.in-Some.row ≡ row_from d.args.rows.now (d.loop-row.i * 10))
 here d = row_found d.args.rows.now d.loop-row.i (sym d.in-Some.is ∙ d.get.ensures)

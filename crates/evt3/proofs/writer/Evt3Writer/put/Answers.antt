@@ -1,12 +1,12 @@
--- `evt3::writer::put_rows` meets its contract.
+-- `evt3::writer::Evt3Writer::put` meets its contract.
 use Rattle.evt3.proofs.RowSteps.{none_found, wrote_start, row_fits_lem, wrote_next, close_fits, wrote_all}
 use Rattle.rows.proofs.Lists.{row_found}
 use Rattle.rows.specs.Row.{room_of, row_from}
 use Prim.Native.Nat.{◌*◌, ◌<◌, ◌≤◌}
 use native.Mathlib.Omega.{arith}
 use mathlib.Core.Path.{◌≡◌, sym, ◌∙◌}
-use Rattle.evt3.proofs.writer.put_rows.Goals as goal
-use Rattle.evt3.proofs.writer.put_rows.Goals.{In-Some, In_default}
+use Rattle.evt3.proofs.writer.Evt3Writer.put.Goals as goal
+use Rattle.evt3.proofs.writer.Evt3Writer.put.Goals.{In-Some, In_default}
 
 here : (d : In-Some) → (d.loop-row.done < room_of d.args.rows.now) × (d.in-Some.row ≡ row_from d.args.rows.now (d.loop-row.done * 10))
 here d = row_found d.args.rows.now d.loop-row.done (sym d.in-Some.is ∙ d.get.ensures)

@@ -1,8 +1,8 @@
--- `evt3::writer::put_rows` meets its contract.
+-- `evt3::writer::Evt3Writer::put` meets its contract.
 use Rattle.evt3.proofs.RowSteps.{Wrote}
 use Rattle.rows.specs.Row.{room_of}
 use Prim.Native.Nat.{◌-◌}
-use Rattle.evt3.proofs.writer.put_rows.Given as goal
+use Rattle.evt3.proofs.writer.Evt3Writer.put.Given as goal
 
 abbrev pub invariant-loop-row : goal.invariant-loop-row
 invariant-loop-row l = Wrote l.rows l.initial.out l.at l.standing l.done l.out

@@ -1,6 +1,4 @@
 -- Lemmas.
-pub mod Bits
-pub mod CaseWords
 pub mod Chosen
 pub mod ColumnWalk
 pub mod Columns
@@ -12,7 +10,7 @@ pub mod PutSteps
 pub mod RowRuns
 pub mod RowSteps
 pub mod Sinks
-pub mod SpanSteps
+pub mod SpanWords
 pub mod Steps
 pub mod Storing
 pub mod TimeWords

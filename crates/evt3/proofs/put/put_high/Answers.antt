@@ -3,9 +3,6 @@ use Rattle.evt3.proofs.PutSteps.{climbing_start, first_fits, zero_fits, wrapped,
 use native.Mathlib.Omega.{arith}
 use Rattle.evt3.proofs.put.put_high.Goals as goal
 
-pub loop-init : goal.loop-init
-loop-init g c = climbing_start _ _ _ _ _ _ _
-
 pub put_unless-to-requires : goal.put_unless-to-requires
 put_unless-to-requires g c = first_fits c.loop.invariant c.requires c.loop-test.true c.is_known.ensures
 

@@ -2,16 +2,6 @@
 use Rattle.evt3.proofs.PutSteps.{high_part_fits, low_fits, time_put}
 use Rattle.evt3.proofs.put.put_new_time.Goals as goal
 
-pub put_high-to-requires : goal.put_high-to-requires
-put_high-to-requires g c =
-    let a = c.args in
-    high_part_fits _ a.told.timed a.told.time a.time a.out.now a.at c.saturating_sub-wraps.ensures c.requires
-
-pub word-requires : goal.word-requires
-word-requires g c =
-    let a = c.args in
-    low_fits _ a.told.timed a.told.time a.time a.out.now a.at c.saturating_sub-wraps.ensures c.requires c.put_high-to.ensures
-
 pub returns : goal.returns
 returns g c =
     let a = c.args in

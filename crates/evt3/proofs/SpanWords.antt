@@ -1,15 +1,14 @@
 -- The words of the pixels in hand.
-use mathlib.Core.Path.{◌≡◌, ◌∙◌, ap}
-use Prim.Native.Nat.{ℕ, ◌-◌, ◌/◌, ◌%◌, ◌≤◌}
+use mathlib.Core.Path.{◌≡◌}
+use Prim.Native.Nat.{ℕ, ◌≤◌}
 use native.Mathlib.Omega.{arith}
-use mathlib.Core.Bool.{Bool, true, false, cond, ◌&&◌}
+use mathlib.Core.Bool.{Bool, true, false, cond}
 use mathlib.Core.List.{List, [], ◌∷◌}
 use lib.ListN.{length}
 use lib.Dec.{eqb}
-use borrow.Author.Tests.{eq-eqb, ne_eqb, eqb-true}
-use Rattle.rows.proofs.GoodRows.{and_first, and_second}
+use borrow.Author.Tests.{ne_eqb}
 use Rattle.evt3.specs.declared.span.Span.{Span}
-use Rattle.evt3.specs.Spelling.{x_word, base_word, vector_word, low_word, high_words, wraps_of, high_of, new_time, time_words}
+use Rattle.evt3.specs.Spelling.{x_word, base_word, vector_word}
 use Rattle.evt3.specs.Walk.{span_words}
 
 -- the pixels in hand

@@ -1,5 +1,5 @@
 -- `evt3::put::put_high` meets its contract.
-use Rattle.evt3.proofs.PutSteps.{climbing_start, first_fits, zero_fits, wrapped, high_fits, high_put}
+use Rattle.evt3.proofs.PutSteps.{first_fits, zero_fits, wrapped, high_fits, high_put}
 use native.Mathlib.Omega.{arith}
 use Rattle.evt3.proofs.put.put_high.Goals as goal
 

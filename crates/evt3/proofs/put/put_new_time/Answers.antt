@@ -1,5 +1,5 @@
 -- `evt3::put::put_new_time` meets its contract.
-use Rattle.evt3.proofs.PutSteps.{high_part_fits, low_fits, time_put}
+use Rattle.evt3.proofs.PutSteps.{time_put}
 use Rattle.evt3.proofs.put.put_new_time.Goals as goal
 
 pub returns : goal.returns

@@ -9,7 +9,6 @@ pub mod OtherRows
 pub mod PutSteps
 pub mod RowRuns
 pub mod RowSteps
-pub mod Sinks
 pub mod SpanWords
 pub mod Steps
 pub mod Storing

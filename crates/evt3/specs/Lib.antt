@@ -1,6 +1,5 @@
 -- Definitions that the contracts cite.
 pub mod Reader
-pub mod Sinks
 pub mod Spelling
 pub mod State
 pub mod Vectors

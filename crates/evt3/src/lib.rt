@@ -22,7 +22,6 @@ mod given;
 mod kind;
 mod put;
 mod reader;
-mod sink;
 mod span;
 mod standing;
 mod state;

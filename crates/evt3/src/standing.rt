@@ -1,7 +1,4 @@
 // Where the writer stands between two rows.
-ghost use Rattle.std.specs.Prelude.{◌≡◌};
-ghost use Rattle.evt3.specs.Walk.{start};
-
 use crate::span::Span;
 use crate::told::Told;
 
@@ -10,16 +7,4 @@ use crate::told::Told;
 pub(crate) struct Standing {
     pub told: Told,
     pub span: Span,
-}
-
-impl Standing {
-    // Before the first row.
-    pub(crate) fn start() -> Standing
-        ensures { result ≡ start }
-    {
-        Standing {
-            told: Told::nothing(),
-            span: Span::none(),
-        }
-    }
 }

@@ -44,14 +44,13 @@ pub trait Writer {
         requires { at + length (walk.close standing) ≤ room S.writes Self.Word.SIZE out.old }
         ensures { Put S.writes Self.Word.SIZE (walk.close standing) out.old at out.new result };
 
-    // The words of a list have the size of the type, and are those of its spelling.
+    // The words of a list have the size of the type.
     ghost sized: { spelling.size ≡ Self.Word.SIZE };
-
-    ghost walks: { Spells spelling walk begin last };
 }
 
 // Judges rows one after the other and counts their words: what is to be written if there is room.
 fn count<W: Writer>(rows: &[u32]) -> Result<usize, WriteError>
+    requires walks { Spells W.spelling W.walk W.begin W.last }
     ensures { result ≡ writing_of (verdict_from W.spelling.writable (rows_of rows.now) 0 0) (length (spelled W.spelling rows.now)) }
 {
     let mut nothing: [u8; 0] = [];
@@ -70,6 +69,7 @@ fn count<W: Writer>(rows: &[u32]) -> Result<usize, WriteError>
 
 // Writes the words of rows that were judged, into a slice that they fit.
 fn put_rows<W: Writer>(rows: &[u32], out: &mut [u8])
+    requires walks { Spells W.spelling W.walk W.begin W.last }
     requires passed { verdict_from W.spelling.writable (rows_of rows.now) 0 0 ≡ accepted }
     requires fits { length (spelled W.spelling rows.now) * W.Word.SIZE ≤ length out.old }
     ensures { out.new ≡ sets out.old 0 (bytes_of_all W.Word.SIZE (spelled W.spelling rows.now)) }
@@ -84,8 +84,11 @@ fn put_rows<W: Writer>(rows: &[u32], out: &mut [u8])
     W::close::<Written>(out, at, standing);
 }
 
-// Writes the words of rows from the first byte of `out` on, and answers how many they are. Refused, it touches nothing.
+// Writes the words of rows from the first byte of `out` on, and answers how many they are. Refused, it touches nothing. What is asked speaks of the
+// format alone, and no law of the trait says it, since a law can rest on no lemma of the format's proofs/: the rows of a list that passes add the words
+// of its spelling.
 pub fn write<W: Writer>(rows: &[u32], out: &mut [u8]) -> Result<usize, WriteError>
+    requires walks { Spells W.spelling W.walk W.begin W.last }
     ensures { WroteAs W.spelling rows.now out.old out.new result }
 {
     if !rows::good_length(rows) {

@@ -1,7 +1,7 @@
 -- `evt3::put::put_other` meets its contract.
 use Rattle.evt3.proofs.PutSteps.{span_fits, time_fits, own_fits, own_put, other_words_lem}
 use Rattle.evt3.proofs.OtherRows.{no_other}
-use Rattle.evt3.proofs.Sinks.{put_none}
+use Rattle.words.proofs.Sinks.{put_none}
 use mathlib.Core.Path.{refl, sym, ◌∙◌}
 use native.Mathlib.Omega.{arith}
 use Rattle.evt3.proofs.put.put_other.Goals as goal

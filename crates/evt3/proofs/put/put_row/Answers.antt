@@ -1,6 +1,6 @@
 -- `evt3::put::put_row` meets its contract.
 use Rattle.evt3.proofs.RowSteps.{adds_fit, adds_put, adds_held, adds_further, adds_first, adds_other}
-use Rattle.evt3.proofs.Sinks.{put_none}
+use Rattle.words.proofs.Sinks.{put_none}
 use mathlib.Core.Path.{sym, ◌∙◌}
 use Rattle.evt3.proofs.put.put_row.Goals as goal
 

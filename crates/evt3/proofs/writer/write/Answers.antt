@@ -1,0 +1,6 @@
+-- `evt3::writer::write` meets its contract.
+use Rattle.evt3.proofs.RowSteps.{spells}
+use Rattle.evt3.proofs.writer.write.Goals as goal
+
+pub write-requires : goal.write-requires
+write-requires c = record { walks = spells }

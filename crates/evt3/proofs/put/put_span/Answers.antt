@@ -4,5 +4,4 @@ use Rattle.evt3.proofs.put.put_span.Goals as goal
 
 pub returns : goal.returns
 returns g c =
-    base_put _ c.args.span c.if-span-eq0.false c.if-span.false c.if-span-eq1.false c.args.out.now c.args.at c.requires
-    c.word-to.ensures c.word-2.ensures
+    base_put _ c.args.span c.if-span-eq0.false c.if-span.false c.if-span-eq1.false c.word-to.ensures c.word-2.ensures

@@ -42,6 +42,9 @@ def functions():
             if not end or not head or head.start() > end.start():
                 continue
             signature = text[at.start() : head.start()]
+            # a method that a trait declares has no body
+            if re.search(r";$", signature, re.M):
+                continue
             opened = signature.index("(", signature.index("fn "))
             depth, close = 0, opened
             for close in range(opened, len(signature)):

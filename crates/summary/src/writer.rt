@@ -77,7 +77,7 @@ fn block_of(rows: &[u32], from: usize, to: usize) -> Block
     block
 }
 
-// Words of numbers at a place, one after the other; answers the place after them, as all functions below.
+// Words of numbers at a place, one after the other; answers the place after them, as put_head and put_block do.
 fn put_words<W: Word>(out: &mut [u8], at: usize, numbers: &[u64]) -> usize
     requires { at + length numbers.now * W.SIZE ≤ length out.old }
     ensures { PutWords W.SIZE numbers.now out.old at out.new result }

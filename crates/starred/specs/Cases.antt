@@ -1,5 +1,5 @@
 -- The cases that 01 marks with a star, as one list: an input, and what is seen of it.
-use Rattle.std.specs.Prelude.{◌≡◌, ℕ, Bool, true, cond, List, [], ◌∷◌, ◌++◌, eqb, pos, negsuc, Some, Result, Ok, Err, Float}
+use Rattle.std.specs.Prelude.{◌≡◌, ℕ, cond, List, [], ◌∷◌, ◌++◌, eqb, pos, negsuc, Some, None, Result, Ok, Err, Float}
 use Rattle.std.specs.Float.{binary32}
 use Rattle.std.specs.Float.Ieee.{of_int}
 use Rattle.events.specs.declared.event.Event.{Event}
@@ -33,10 +33,9 @@ pub data Input : Type 0 where
   aedat : List ℕ → Input
   to_evt3 : List Row → Input
 
--- how the reading ends: in a state (of EVT2, whether a high part is known, which, and how many words of a group are to come; of DAT, the
--- last time), or by a refusal at a place; of a writing the verdict and the words
+-- how the reading ends: in a state (of DAT, the last time), or by a refusal at a place; of a writing the verdict and the words
 pub data Final : Type 0 where
-  evt2_ends : Bool → ℕ → ℕ → Final
+  evt2_ends : evt2_state.State → Final
   evt3_ends : State → Final
   dat_ends : ℕ → Final
   aedat_ends : aedat_state.State → Final
@@ -76,7 +75,7 @@ evt3_written rs =
 -- with room for 100 rows, or 100 bytes, which no case fills
 abbrev pub seen_of : Input → Seen
 seen_of (evt2 ws) =
-    seen_as (λ (r : Reached evt2_state.State). evt2_ends r.state.known r.state.high r.state.left) (evt2_reader.reading_of (picture_of 2048 2048) (bytes_of_all 4 ws) 100)
+    seen_as (λ (r : Reached evt2_state.State). evt2_ends r.state) (evt2_reader.reading_of (picture_of 2048 2048) (bytes_of_all 4 ws) 100)
 seen_of (evt3 ws) = seen_as (λ (r : Reached State). evt3_ends r.state) (reading_of (picture_of 2048 2048) (bytes_of_all 2 ws) 100)
 seen_of (dat bytes) = seen_as (λ (r : Reached dat_state.State). dat_ends r.state.last) (dat_reader.reading_of bytes 100)
 seen_of (aedat bytes) = seen_as aedat_ends (aedat_reader.reading_of bytes 100)
@@ -94,6 +93,10 @@ EachHolds (c ∷ cs) = (seen_of c.input ≡ c.seen) × EachHolds cs
 -- the state of an EVT3 reader after 8001 6002 0003
 abbrev pub time_and_y : State
 time_and_y = with_y (with_time (with_high fresh 1 0) 4098) 3 0
+
+-- the state of an EVT2 reader that knows the high part 1, and has no group in hand
+abbrev pub high_1 : evt2_state.State
+high_1 = record { group = None; high = Some 1 }
 
 -- the five CONTINUED of an IMU reading that is 0 but along X, and its other readings (a temperature of +0 stands for none)
 abbrev pub still : List ℕ
@@ -149,22 +152,22 @@ star_cases =
     -- EVT2: one pixel
     ∷ record {
       input = evt2 (0x80000001 ∷ 0x10802803 ∷ []);
-      seen = record { rows = pixel_row 66 5 3 1 ∷ []; final = evt2_ends true 1 0; readings = [] };
+      seen = record { rows = pixel_row 66 5 3 1 ∷ []; final = evt2_ends high_1; readings = [] };
     }
     -- then a trigger, of an earlier low time
     ∷ record {
       input = evt2 (0x80000001 ∷ 0x10802803 ∷ 0xA0000601 ∷ []);
-      seen = record { rows = pixel_row 66 5 3 1 ∷ trigger_row 64 6 1 ∷ []; final = evt2_ends true 1 0; readings = [] };
+      seen = record { rows = pixel_row 66 5 3 1 ∷ trigger_row 64 6 1 ∷ []; final = evt2_ends high_1; readings = [] };
     }
     -- an IMU reading of 1 g along X
     ∷ record {
       input = evt2 (0x80000001 ∷ 0xD0008000 ∷ still);
-      seen = record { rows = counts_row 64 16384 0 0 0 0 0 ∷ []; final = evt2_ends true 1 0; readings = of_int binary32 (pos 1) ∷ zeros };
+      seen = record { rows = counts_row 64 16384 0 0 0 0 0 ∷ []; final = evt2_ends high_1; readings = of_int binary32 (pos 1) ∷ zeros };
     }
     -- and of -2 g
     ∷ record {
       input = evt2 (0x80000001 ∷ 0xD0010000 ∷ still);
-      seen = record { rows = counts_row 64 32768 0 0 0 0 0 ∷ []; final = evt2_ends true 1 0; readings = of_int binary32 (negsuc 1) ∷ zeros };
+      seen = record { rows = counts_row 64 32768 0 0 0 0 0 ∷ []; final = evt2_ends high_1; readings = of_int binary32 (negsuc 1) ∷ zeros };
     }
     -- DAT: one pixel, after the two bytes that every file has there
     ∷ record {

@@ -1,4 +1,3 @@
 -- Lemmas.
-pub mod RowSteps
 pub mod Spelled
 pub mod Steps

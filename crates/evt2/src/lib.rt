@@ -12,9 +12,9 @@
 // Writing is refused: 13 the list's length, then row by row 12 a bad row, or one that these words cannot say, and 5 a time
 // that goes back, then 2 a slice shorter than the words. A refused writer touches nothing.
 //
-// The reader's state is a struct by value: for each kind of word that changes it, a method takes the word and hands back the
-// next state. specs/Words.antt says what each word does, specs/Reader.antt what any bytes give, specs/Spelling.antt what any
-// list of rows is written as.
+// Both run in the loops of crate `words`: `Words` is the machine that its reader asks of each word, `Spelled` what its writer asks of each row. The
+// reader's state is a struct by value. specs/Words.antt says what each word does, specs/Reader.antt what any bytes give, specs/Spelling.antt
+// what any list of rows is written as.
 #![tactic(auto)]
 
 mod group;

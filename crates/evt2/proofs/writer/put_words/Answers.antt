@@ -1,9 +1,10 @@
 -- `evt2::writer::put_words` meets its contract.
 use Rattle.std.proofs.Common.{◌∷◌, [], add-one, drop-cons, slice_index_or}
-use Rattle.words.proofs.Writes.{writes_more}
+use Rattle.words.proofs.Sinks.{puts_more}
 use Rattle.evt2.proofs.writer.put_words.Goals as goal
 
 pub loop-word-preserved : goal.loop-word-preserved
-loop-word-preserved c =
+loop-word-preserved g c =
     let word = slice_index_or c.args.words.now c.loop-word.word-index 0 in
-    rw add-one (writes_more (word ∷ []) (rw (drop-cons c.args.words.now c.loop-word.word-index 0 c.loop-word-test.true) at c.loop-word.invariant) c.put_word-at.ensures)
+    rw add-one
+    (puts_more (word ∷ []) (rw (drop-cons c.args.words.now c.loop-word.word-index 0 c.loop-word-test.true) at c.loop-word.invariant) c.word-at.ensures)

@@ -52,6 +52,7 @@ impl Reader for Words {
         state.give(kind, self.picture, w, rows, n)
     }
 
+    #[tactic(auto, using(crate::proofs::Steps::leads))]
     fn next(&self, state: State, kind: Kind, place: usize, w: u64) -> Option<State> {
         state.next(kind, place, w)
     }

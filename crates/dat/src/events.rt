@@ -28,7 +28,7 @@ impl Reader for Events {
     ghost sized = { λ events. refl };
 
     fn fresh(&self) -> State {
-        State::fresh()
+        State::default()
     }
 
     fn kind(&self, _state: State, _w: u64) {}

@@ -3,25 +3,18 @@ ghost use Rattle.std.specs.Prelude.{◌≡◌, ◌≤◌};
 ghost use Rattle.rows.specs.Row.{room_of};
 ghost use Rattle.words.specs.Fields.{field};
 ghost use Rattle.words.specs.Written.{GaveAs};
-ghost use Rattle.dat.specs.Words.{fresh, with_last, event_of};
+ghost use Rattle.dat.specs.Words.{with_last, event_of};
 
 use rows::{Fault, Row};
 use words::{Picture, Stop};
 
 // What a reader knows between events: the last one's time, and 0 before the first.
-#[derive(Clone, Copy, Debug, PartialEq, Eq)]
+#[derive(Clone, Copy, Debug, Default, PartialEq, Eq)]
 pub struct State {
     pub last: u32,
 }
 
 impl State {
-    // A reader before its first event.
-    pub(crate) fn fresh() -> State
-        ensures { result ≡ fresh }
-    {
-        State { last: 0 }
-    }
-
     // After an event.
     pub(crate) fn event(mut self, w: u64) -> State
         ensures { result ≡ with_last self (field 0 32 w) }

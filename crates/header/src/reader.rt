@@ -64,7 +64,7 @@ pub fn read(bytes: &[u8], limit: u32) -> Result<Header, HeaderError>
         });
     }
     let mut at = 0;
-    let mut sides = Sides::unsaid();
+    let mut sides = Sides::default();
     while let Some(line) = read_line(&bytes[at..], limit, sides).map_err(|fault| HeaderError {
         fault,
         place: at,

@@ -1,6 +1,6 @@
 // The sides of the picture, and which of them a line's keyword names.
 ghost use Rattle.std.specs.Prelude.{◌≡◌};
-ghost use Rattle.header.specs.Sides.{unsaid, keyword_length, side_of, may_be, said, with_side, judged_of};
+ghost use Rattle.header.specs.Sides.{keyword_length, side_of, may_be, said, with_side, judged_of};
 
 use crate::value::value_of;
 
@@ -11,8 +11,8 @@ pub(crate) enum Side {
     Height,
 }
 
-// What lines have said of the picture so far.
-#[derive(Clone, Copy, Debug, PartialEq, Eq)]
+// What lines have said of the picture so far: nothing before the first.
+#[derive(Clone, Copy, Debug, Default, PartialEq, Eq)]
 pub(crate) struct Sides {
     pub width: Option<u32>,
     pub height: Option<u32>,
@@ -49,16 +49,6 @@ fn may_be(before: Option<u32>, n: u32, limit: u32) -> bool
 }
 
 impl Sides {
-    // Before the first line nothing is known of the picture.
-    pub(crate) fn unsaid() -> Sides
-        ensures { result ≡ unsaid }
-    {
-        Sides {
-            width: None,
-            height: None,
-        }
-    }
-
     // What is known of a side.
     fn said(self, side: Side) -> Option<u32>
         ensures { result ≡ said side self }

@@ -9,7 +9,7 @@ use Rattle.rows.specs.declared.fault.ReadError.{ReadError}
 use Rattle.rows.specs.Rules.{AllGood}
 use Rattle.rows.specs.Runs.{run_as, run_from, EndsWithin, ReadAs}
 use Rattle.rows.proofs.Lists.{part_rest}
-use Rattle.rows.proofs.Viewed.{as_within, answer_from, reads_from, reads_place, from_within}
+use Rattle.rows.proofs.Viewed.{as_within, reads_place, from_within}
 use Rattle.words.specs.Picture.{picture_of}
 use Rattle.evt2.specs.Reader as evt2_reader
 use Rattle.evt2_laws.proofs.Kept as evt2
@@ -45,9 +45,6 @@ module _ (format : Format) (width height : ℕ) (bytes : List ℕ) (at room : �
     (h : ReadAs (words_as format width height (take (length bytes - at) (drop at bytes)) room) old new r) where
   from_data : ReadAs (words_as format width height (drop at bytes) room) old new r
   from_data = subst (λ (b : List ℕ). ReadAs (words_as format width height b room) old new r) (part_rest at bytes) h
-
-  pub reads_words : {x : Result ℕ ReadError} → r ≡ x → ReadAs (run_from at (words_as format width height (drop at bytes) room)) old new (answer_from at x)
-  reads_words e = reads_from from_data at e
 
   pub place_within : {x : ReadError} → r ≡ Err x → at + x.place ≤ length bytes
   place_within e =

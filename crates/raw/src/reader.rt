@@ -5,7 +5,8 @@ ghost use Rattle.raw.specs.Reader.{words_as, reading_of};
 
 use rows::ReadError;
 
-// Which words follow the header. The file itself is not asked.
+// Which words follow the header: the caller says it, and the file itself is not asked. An enum and no closure, since the definition
+// and the laws speak of each of the two.
 #[derive(Clone, Copy, Debug, PartialEq, Eq)]
 pub enum Format {
     Evt2,

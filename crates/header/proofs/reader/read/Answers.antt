@@ -1,5 +1,6 @@
 -- `header::reader::read` meets its contract.
 use Rattle.std.proofs.Common.{◌≡◌, sym, ◌∙◌, arith, rules, Ok, Err, Some, None}
+use Rattle.header.specs.Sides.{unsaid}
 use Rattle.header.proofs.LineRules.{line_then}
 use Rattle.header.proofs.Lines.{header_start, header_long, good_line_in, good_line_read}
 use Rattle.header.proofs.reader.read.Goals as goal
@@ -9,7 +10,7 @@ pub returns-then-bytes-gt1073741824 : goal.returns-then-bytes-gt1073741824
 returns-then-bytes-gt1073741824 c = header_long _ _ c.if-bytes-gt1073741824.true
 
 pub loop-line-init : goal.loop-line-init
-loop-line-init c = rw c.unsaid-sides.ensures (header_start c.if-bytes-gt1073741824.false)
+loop-line-init c = let e : c.default-sides.result ≡ unsaid = search rules in rw e (header_start c.if-bytes-gt1073741824.false)
 
 pub returns-in_err-line : goal.returns-in_err-line
 returns-in_err-line c =

@@ -1,10 +1,10 @@
 // What a case calls, and what came back of it: a list of numbers, first those of the answer and then all of the lent buffer. The head of the
 // table says which numbers each call is given and which it answers.
-use crate::data::{put, put_low, widen};
-use crate::parts::{column, least};
-use header::is_same;
+use crate::data::{ROOM, widen};
+use header::HeaderNumbers;
+use join::WholeNumbers;
 use raw::Format;
-use rows::{Reading, Writing};
+use rows::{ReadError, ReadingNumbers, WriteError, WritingNumbers};
 
 #[derive(Clone, Copy)]
 pub(crate) enum Reader {
@@ -13,6 +13,14 @@ pub(crate) enum Reader {
     Raw(Format),
     Dat,
     Aedat,
+    // AEDAT packets, the lines before which the case leaves out.
+    Packets,
+}
+
+#[derive(Clone, Copy)]
+pub(crate) enum Writer {
+    Evt2,
+    Evt3,
 }
 
 #[derive(Clone, Copy)]
@@ -20,8 +28,7 @@ pub(crate) enum Call {
     Read(Reader),
     Header,
     Whole,
-    // EVT3 words, or EVT2 words.
-    Write(bool),
+    Write(Writer),
     Event,
 }
 
@@ -35,75 +42,58 @@ pub(crate) struct Came {
     pub(crate) rows: usize,
 }
 
-// How many names stand before a name in the list of all; 12 where it is none of them.
-pub(crate) fn place_of(name: &[u8]) -> usize {
-    let names =
-        b"evt2 evt3 raw-evt2 raw-evt3 dat aedat packets header whole write-evt2 write-evt3 event ";
-    let mut i = 0;
-    while i < 12 {
-        if is_same(name, column(names, b' ', i)) {
-            return i;
-        }
-        i += 1;
-    }
-    i
-}
-
-// The call of a name by its place.
-pub(crate) fn call_of(place: usize) -> Call {
-    match place {
-        0 => Call::Read(Reader::Evt2),
-        1 => Call::Read(Reader::Evt3),
-        2 => Call::Read(Reader::Raw(Format::Evt2)),
-        3 => Call::Read(Reader::Raw(Format::Evt3)),
-        4 => Call::Read(Reader::Dat),
-        5 => Call::Read(Reader::Aedat),
-        6 => Call::Read(Reader::Aedat),
-        7 => Call::Header,
-        8 => Call::Whole,
-        9 => Call::Write(false),
-        10 => Call::Write(true),
-        _ => Call::Event,
+// The call of a name.
+pub(crate) fn call_of(name: &[u8]) -> Option<Call> {
+    match name {
+        b"evt2" => Some(Call::Read(Reader::Evt2)),
+        b"evt3" => Some(Call::Read(Reader::Evt3)),
+        b"raw-evt2" => Some(Call::Read(Reader::Raw(Format::Evt2))),
+        b"raw-evt3" => Some(Call::Read(Reader::Raw(Format::Evt3))),
+        b"dat" => Some(Call::Read(Reader::Dat)),
+        b"aedat" => Some(Call::Read(Reader::Aedat)),
+        b"packets" => Some(Call::Read(Reader::Packets)),
+        b"header" => Some(Call::Header),
+        b"whole" => Some(Call::Whole),
+        b"write-evt2" => Some(Call::Write(Writer::Evt2)),
+        b"write-evt3" => Some(Call::Write(Writer::Evt3)),
+        b"event" => Some(Call::Event),
+        _ => None,
     }
 }
 
 // A number of the answer. None that a case states is as large as the last one.
 fn small(n: u64) -> u32 {
-    if n < 4294967295 {
-        return n as u32;
-    }
-    4294967295
+    n.min(4294967295) as u32
 }
 
 // The first two numbers of an answer.
-fn put_two(came: &mut [u32], first: u64, second: u64) {
-    put(came, 0, small(first));
-    put(came, 1, small(second));
+fn put_two(came: &mut [u32; ROOM], first: u64, second: u64) {
+    came[0] = small(first);
+    came[1] = small(second);
 }
 
-fn read_by(reader: Reader, width: u32, height: u32, input: &[u8], rows: &mut [u32]) -> Reading {
+fn read_by(
+    reader: Reader,
+    width: u32,
+    height: u32,
+    input: &[u8],
+    rows: &mut [u32],
+) -> Result<usize, ReadError> {
     match reader {
         Reader::Evt2 => evt2::read(input, width, height, rows),
         Reader::Evt3 => evt3::read(input, width, height, rows),
         Reader::Raw(format) => raw::read(input, format, rows),
         Reader::Dat => dat::read(input, rows),
-        Reader::Aedat => aedat::read(input, rows),
+        Reader::Aedat | Reader::Packets => aedat::read(input, rows),
     }
 }
 
 // The lent buffer is nine numbers longer than its rows.
-fn read(
-    reader: Reader,
-    room: u32,
-    width: u32,
-    height: u32,
-    input: &[u8],
-    came: &mut [u32],
-) -> Came {
+fn read(reader: Reader, given: [u32; 3], input: &[u8], came: &mut [u32; ROOM]) -> Came {
+    let [room, width, height] = given;
     let length = room as usize * 10 + 11;
-    let to = least(length, came.len());
-    let from = least(2, to);
-    let reading = read_by(reader, width, height, input, &mut came[from..to]).numbers();
+    let lent = &mut came[2..length.min(ROOM)];
+    let reading = ReadingNumbers::from(read_by(reader, width, height, input, lent));
     put_two(came, reading.refusal, reading.place);
     let rows = small(reading.rows);
     Came {
@@ -114,11 +104,11 @@ fn read(
     }
 }
 
-fn read_header(limit: u32, input: &[u8], came: &mut [u32]) -> Came {
-    let header = header::read(input, limit).numbers();
+fn read_header(limit: u32, input: &[u8], came: &mut [u32; ROOM]) -> Came {
+    let header = HeaderNumbers::from(header::read(input, limit));
     put_two(came, header.refusal, header.place);
-    put(came, 2, header.width);
-    put(came, 3, header.height);
+    came[2] = header.width;
+    came[3] = header.height;
     Came {
         answers: 4,
         length: 4,
@@ -127,8 +117,8 @@ fn read_header(limit: u32, input: &[u8], came: &mut [u32]) -> Came {
     }
 }
 
-fn find_whole(input: &[u8], came: &mut [u32]) -> Came {
-    let whole = join::whole_from(input).numbers();
+fn find_whole(input: &[u8], came: &mut [u32; ROOM]) -> Came {
+    let whole = WholeNumbers::from(join::whole_from(input));
     put_two(came, whole.seen, whole.place);
     Came {
         answers: 2,
@@ -138,21 +128,19 @@ fn find_whole(input: &[u8], came: &mut [u32]) -> Came {
     }
 }
 
-// What is written by the writer of EVT3 or that of EVT2.
-fn write_by(three: bool, list: &[u32], out: &mut [u8]) -> Writing {
-    if three {
-        return evt3::write(list, out);
+fn write_by(writer: Writer, list: &[u32], out: &mut [u8]) -> Result<usize, WriteError> {
+    match writer {
+        Writer::Evt2 => evt2::write(list, out),
+        Writer::Evt3 => evt3::write(list, out),
     }
-    evt2::write(list, out)
 }
 
-fn write(three: bool, room: u32, list: &[u32], came: &mut [u32]) -> Came {
-    let mut out = [9u8; 8192];
-    let to = least(room as usize, 8192);
-    let from = least(0, to);
-    let writing = write_by(three, list, &mut out[from..to]).numbers();
-    widen(&out, came, 2);
+fn write(writer: Writer, room: u32, list: &[u32], came: &mut [u32; ROOM]) -> Came {
+    let mut out = [9; ROOM];
+    let lent = &mut out[..(room as usize).min(ROOM)];
+    let writing = WritingNumbers::from(write_by(writer, list, lent));
     put_two(came, writing.refusal, writing.count);
+    widen(&out, &mut came[2..]);
     Came {
         answers: 2,
         length: room as usize + 2,
@@ -163,30 +151,21 @@ fn write(three: bool, room: u32, list: &[u32], came: &mut [u32]) -> Came {
 
 // The bits of a single, a NaN's as those of one NaN.
 fn bits_of(x: f32) -> u32 {
-    if x != x {
+    if x.is_nan() {
         return 2143289344;
     }
-    f32::to_bits(x)
+    x.to_bits()
 }
 
-// The numbers of an event that stand in its row too, and its readings.
-fn put_values(came: &mut [u32], values: [u32; 7], readings: [f32; 7]) {
-    let mut i = 0;
-    while i < 7 {
-        put(came, 4 + i, values[i]);
-        put_low(came, 11 + 4 * i, bits_of(readings[i]) as u64, 4);
-        i += 1;
-    }
-}
-
-fn make_event(list: &[u32], came: &mut [u32]) -> Came {
+fn make_event(list: &[u32], came: &mut [u32; ROOM]) -> Came {
     let event = events::event_numbers(list);
     put_two(came, event.refusal, event.kind);
-    put(came, 2, (event.time % 4294967296) as u32);
-    put(came, 3, small(event.time / 4294967296));
-    let values = event.values;
-    let readings = event.readings;
-    put_values(came, values, readings);
+    came[2] = (event.time % 4294967296) as u32;
+    came[3] = small(event.time / 4294967296);
+    came[4..11].copy_from_slice(&event.values);
+    for (places, reading) in came[11..].chunks_mut(4).zip(event.readings) {
+        widen(&bits_of(reading).to_le_bytes(), places);
+    }
     Came {
         answers: 1,
         length: 39,
@@ -201,13 +180,13 @@ pub(crate) fn run(
     given: [u32; 3],
     list: &[u32],
     input: &[u8],
-    came: &mut [u32],
+    came: &mut [u32; ROOM],
 ) -> Came {
     match call {
-        Call::Read(reader) => read(reader, given[0], given[1], given[2], input, came),
+        Call::Read(reader) => read(reader, given, input, came),
         Call::Header => read_header(given[0], input, came),
         Call::Whole => find_whole(input, came),
-        Call::Write(three) => write(three, given[0], list, came),
+        Call::Write(writer) => write(writer, given[0], list, came),
         Call::Event => make_event(list, came),
     }
 }

@@ -1,8 +1,8 @@
 // One case: its call is made, and what comes back is held to what the case states. A case that holds says nothing.
 use crate::calls;
-use crate::calls::{Call, Came};
-use crate::data::{narrow, units};
-use crate::parts::{begin, column, first, part};
+use crate::calls::{Call, Came, Reader};
+use crate::data::{ROOM, narrow, units};
+use crate::parts::{after_two, column};
 use crate::text::{say, unit};
 use std::io;
 
@@ -17,94 +17,66 @@ struct Form {
 }
 
 fn form_of(call: Call) -> Form {
-    match call {
-        Call::Read(_) => Form {
-            data: false,
-            rows: true,
-            before: 7,
-            given: 16,
-        },
-        Call::Header => Form {
-            data: false,
-            rows: true,
-            before: 0,
-            given: 2048,
-        },
-        Call::Whole => Form {
-            data: false,
-            rows: true,
-            before: 0,
-            given: 0,
-        },
-        Call::Write(_) => Form {
-            data: true,
-            rows: false,
-            before: 9,
-            given: 96,
-        },
-        Call::Event => Form {
-            data: true,
-            rows: true,
-            before: 0,
-            given: 0,
-        },
+    let (data, rows, before, given) = match call {
+        Call::Read(_) => (false, true, 7, 16),
+        Call::Header => (false, true, 0, 2048),
+        Call::Whole => (false, true, 0, 0),
+        Call::Write(_) => (true, false, 9, 96),
+        Call::Event => (true, true, 0, 0),
+    };
+    Form {
+        data,
+        rows,
+        before,
+        given,
     }
 }
 
-// The lines that stand before AEDAT packets, the data of the call at place 6.
-fn lines_before(place: usize, data: &mut [u32]) -> usize {
-    if place == 6 {
-        return units(
+// The lines that stand before AEDAT packets.
+fn lines_before(call: Call, data: &mut [u32]) -> usize {
+    match call {
+        Call::Read(Reader::Packets) => units(
             b"\"#!AER-DAT3.1\\r\\n#Format: RAW\\r\\n#!END-HEADER\\r\\n\"",
             0,
             false,
             data,
-        );
+        ),
+        _ => 0,
     }
-    0
 }
 
-// Whether a list begins another.
-fn begins(a: &[u32], b: &[u32]) -> bool {
-    if b.len() < a.len() {
-        return false;
+// The name and the call of a case that does not hold, as the table has them.
+fn say_case(rt: &impl Print, line: &[u8]) -> io::Result<()> {
+    for column in line.split_inclusive(|byte| *byte == b'|').take(2) {
+        say(rt, column)?;
     }
-    let mut i = 0;
-    while i < a.len() {
-        if a[i] != b[i] {
-            return false;
-        }
-        i += 1;
-    }
-    true
+    Ok(())
 }
 
 // A line on a case that does not hold.
 fn tell(rt: &impl Print, line: &[u8], what: &[u8]) -> io::Result<bool> {
-    say(rt, part(line, 0, begin(line, b'|', 2)))?;
+    say_case(rt, line)?;
     say(rt, what)?;
     say(rt, b"\n")?;
     Ok(false)
 }
 
 fn say_all(rt: &impl Print, list: &[u32], came: Came) -> io::Result<()> {
-    let mut i = 0;
-    while i < list.len() {
+    for (i, n) in list.iter().enumerate() {
         if i == came.answers {
             say(rt, b" |")?;
         }
         if i == came.rows {
             say(rt, b" then")?;
         }
-        unit(rt, list[i], i < came.decimals)?;
-        i += 1;
+        unit(rt, *n, i < came.decimals)?;
     }
     Ok(())
 }
 
 // What came back of a case that does not hold.
 fn tell_all(rt: &impl Print, line: &[u8], list: &[u32], came: Came) -> io::Result<bool> {
-    say(rt, part(line, 0, begin(line, b'|', 2)))?;
+    say_case(rt, line)?;
     say_all(rt, list, came)?;
     say(rt, b"\n")?;
     Ok(false)
@@ -115,56 +87,48 @@ fn holds_for(
     rt: &impl Print,
     line: &[u8],
     call: Call,
-    form: Form,
     data: &[u32],
     stated: &[u32],
     end: usize,
 ) -> io::Result<bool> {
+    let form = form_of(call);
     let mut given = [form.given, 2048, 2048];
-    let words = column(line, b'|', 1);
-    let numbers = part(words, begin(words, b' ', 2), words.len());
+    let numbers = after_two(column(line, b'|', 1), b' ');
     units(numbers, 0, true, &mut given);
-    let mut input = [0u8; 8192];
+    let mut input = [0; ROOM];
     narrow(data, &mut input);
-    let mut list = [form.before; 8192];
-    let came = calls::run(call, given, data, part(&input, 0, data.len()), &mut list);
-    if 8192 < came.length {
+    let input = &input[..data.len().min(ROOM)];
+    let mut list = [form.before; ROOM];
+    let came = calls::run(call, given, data, input, &mut list);
+    let Some(list) = list.get(..came.length) else {
         return tell(rt, line, b" does not fit");
-    }
-    let list = first(&list, came.length);
-    if (came.rows == came.length) | (came.rows == end) {
-        if begins(list, stated) {
-            return Ok(true);
-        }
+    };
+    let ends = (came.rows == came.length) | (came.rows == end);
+    if ends && stated.starts_with(list) {
+        return Ok(true);
     }
     tell_all(rt, line, list, came)
 }
 
-// The numbers of a column.
-fn column_into(line: &[u8], count: usize, from: usize, decimal: bool, list: &mut [u32]) -> usize {
-    units(column(line, b'|', count), from, decimal, list)
-}
-
 // Whether the case of a line holds.
 pub(crate) fn holds(rt: &impl Print, line: &[u8]) -> io::Result<bool> {
-    let place = calls::place_of(column(column(line, b'|', 1), b' ', 1));
-    if place == 12 {
+    let name = column(column(line, b'|', 1), b' ', 1);
+    let Some(call) = calls::call_of(name) else {
         return tell(rt, line, b" no such call");
-    }
-    let call = calls::call_of(place);
+    };
     let form = form_of(call);
-    let mut data = [0u32; 8192];
-    let from = lines_before(place, &mut data);
-    let to = column_into(line, 2, from, form.data, &mut data);
-    let mut stated = [form.before; 8192];
-    let answer = column_into(line, 3, 0, true, &mut stated);
+    let mut data = [0; ROOM];
+    let from = lines_before(call, &mut data);
+    let to = units(column(line, b'|', 2), from, form.data, &mut data);
+    let mut stated = [form.before; ROOM];
+    let answer = units(column(line, b'|', 3), 0, true, &mut stated);
     if answer == 0 {
         return tell(rt, line, b" no case");
     }
-    let buffer = column_into(line, 4, answer, form.rows, &mut stated);
-    let end = column_into(line, 5, buffer, false, &mut stated);
-    if (8192 < to) | (8192 < end) {
+    let buffer = units(column(line, b'|', 4), answer, form.rows, &mut stated);
+    let end = units(column(line, b'|', 5), buffer, false, &mut stated);
+    if (ROOM < to) | (ROOM < end) {
         return tell(rt, line, b" does not fit");
     }
-    holds_for(rt, line, call, form, first(&data, to), &stated, end)
+    holds_for(rt, line, call, &data[..to], &stated, end)
 }

@@ -2,20 +2,30 @@
 // zeros. In any other column they are bytes: a hexadecimal number is its bytes, the low one first; text stands in quotes, where \n, \r,
 // \t, \0, \" and \\ are what they are in C. `*n` repeats what stands before it, so that it is there n times: a number, a text, or
 // what parentheses enclose. What does not fit a list is left out, and the count goes on; what cannot be read fits nowhere.
-use crate::parts::least;
-use std::num::{wrapping_add_usize, wrapping_sub_usize};
+ghost use Rattle.std.specs.Prelude.{◌<◌};
+
+// The numbers of the longest list. A list is an array: a `Vec` would grow with a count of times, and the heap is one more thing to trust.
+pub(crate) const ROOM: usize = 8192;
 
 // More than any list holds.
 const NOWHERE: usize = 1099511627776;
 
-// A column under way.
+// Where a byte stands: outside quotes, within them, or there after a backslash.
 #[derive(Clone, Copy)]
-struct Run {
+enum Place {
+    Outside,
+    Quoted,
+    Escaped,
+}
+
+// A column under way, and the list that its numbers go to.
+#[derive(Drop)]
+struct Run<'a> {
+    list: &'a mut [u32],
     decimal: bool,
-    // After a star, within quotes, after a backslash.
+    place: Place,
+    // After a star. A quoted text may stand between it and its count, so that it is no case of `Place`.
     counting: bool,
-    quoted: bool,
-    escaped: bool,
     // The digits of a number so far, and its value.
     digits: usize,
     value: u64,
@@ -26,198 +36,151 @@ struct Run {
     to: usize,
 }
 
-pub(crate) fn put(list: &mut [u32], at: usize, n: u32) {
-    if at < list.len() {
-        list[at] = n;
+// The part of a list from a place on, of so many numbers or as many as there are.
+fn part(list: &mut [u32], from: usize, count: usize) -> &mut [u32] {
+    let from = from.min(list.len());
+    let to = from.saturating_add(count).min(list.len());
+    &mut list[from..to]
+}
+
+fn put(list: &mut [u32], at: usize, n: u32) {
+    if let Some(place) = list.get_mut(at) {
+        *place = n;
     }
 }
 
-fn put_byte(list: &mut [u32], at: usize, byte: u8) {
-    put(list, at, byte as u32);
-}
-
-fn get(list: &[u32], at: usize) -> u32 {
-    if at < list.len() {
-        return list[at];
-    }
-    0
-}
-
-// Puts the low bytes of a value, the lowest first.
-pub(crate) fn put_low(list: &mut [u32], at: usize, value: u64, count: usize) {
-    let mut rest = value;
-    let mut k = 0;
-    while k < count {
-        put(list, wrapping_add_usize(at, k), (rest % 256) as u32);
-        rest = rest / 256;
-        k += 1;
-    }
-}
-
-// Copies the numbers from a place on to a later one, so that those between the two repeat.
+// Puts the numbers between two places again behind them, over and over, so many in all.
 fn put_again(list: &mut [u32], from: usize, to: usize, count: usize) {
-    let mut k = 0;
-    while k < count {
-        put(
-            list,
-            wrapping_add_usize(to, k),
-            get(list, wrapping_add_usize(from, k)),
-        );
-        k += 1;
-    }
-}
-
-// The value of a digit, decimal or hexadecimal; 16 for what is none.
-fn digit_of(byte: u8, decimal: bool) -> u64 {
-    if (b'0' <= byte) & (byte <= b'9') {
-        return (byte % 16) as u64;
-    }
-    if decimal {
-        return 16;
-    }
-    match byte {
-        b'A'..=b'F' => (byte % 16) as u64 + 9,
-        b'a'..=b'f' => (byte % 16) as u64 + 9,
-        _ => 16,
+    if let Some((before, after)) = list.split_at_mut_checked(to) {
+        let item = before.iter().skip(from).cycle();
+        for (place, n) in after.iter_mut().take(count).zip(item) {
+            *place = *n;
+        }
     }
 }
 
 fn escape(byte: u8) -> u8 {
     match byte {
-        b'n' => 10,
-        b'r' => 13,
-        b't' => 9,
-        b'0' => 0,
+        b'n' => b'\n',
+        b'r' => b'\r',
+        b't' => b'\t',
+        b'0' => b'\0',
         _ => byte,
     }
 }
 
-// So many numbers, or more than fit.
-fn count_of(count: usize, bad: bool) -> usize {
-    if bad {
-        return NOWHERE;
-    }
-    count
-}
-
-impl Run {
-    fn after_digit(mut self, digit: u64) -> Run {
-        let value = self.value;
-        self.digits = wrapping_add_usize(self.digits, 1);
-        if self.decimal | self.counting {
-            self.value = value % 1000000000000000000 * 10 + digit % 16;
-            return self;
-        }
-        self.value = value % 1152921504606846976 * 16 + digit % 16;
-        self
+impl Run<'_> {
+    // A digit more of the number under way. Leading digits of a number that is far too long are lost.
+    fn digit(&mut self, digit: u64)
+        requires { digit < 16 }
+    {
+        self.digits = self.digits.wrapping_add(1);
+        self.value = if self.decimal | self.counting {
+            self.value % 1000000000000000000 * 10 + digit
+        } else {
+            self.value % 1152921504606846976 * 16 + digit
+        };
     }
 
-    // With so many numbers put, and no number under way.
-    fn after(mut self, count: usize) -> Run {
+    // So many numbers are put, and no number is under way.
+    fn pass(&mut self, count: usize) {
         self.counting = false;
-        self.escaped = false;
         self.digits = 0;
         self.value = 0;
-        self.to = wrapping_add_usize(self.to, count);
-        self
+        self.to = self.to.wrapping_add(count);
     }
 
-    // After a count of times.
-    fn after_count(self, list: &mut [u32]) -> Run {
-        let size = least(wrapping_sub_usize(self.to, self.from), 16384);
-        let times = least(wrapping_sub_usize(self.value as usize, 1), 16384);
+    fn put_byte(&mut self, byte: u8) {
+        put(self.list, self.to, u32::from(byte));
+        self.pass(1);
+    }
+
+    // A count of times has ended: the last item comes again, so that it is there so many times.
+    fn repeat(&mut self) {
+        let size = self.to.wrapping_sub(self.from).min(16384);
+        let times = (self.value as usize).wrapping_sub(1).min(16384);
         let count = size * times;
-        put_again(list, self.from, self.to, count);
-        self.after(count)
+        put_again(self.list, self.from, self.to, count);
+        self.pass(count);
     }
 
-    // After a number, if one was under way: a decimal one is below 2^32, another one has whole bytes, at most eight.
-    fn after_number(mut self, list: &mut [u32]) -> Run {
+    // A number has ended, if one was under way: a decimal one is below 2^32, another one has whole bytes, at most eight.
+    fn end_number(&mut self) {
         if self.digits == 0 {
-            return self;
+            return;
         }
         if self.counting {
-            return self.after_count(list);
+            self.repeat();
+            return;
         }
         self.from = self.to;
         if self.decimal {
-            let bad = (10 < self.digits) | (4294967295 < self.value);
-            put(list, self.to, (self.value % 4294967296) as u32);
-            return self.after(count_of(1, bad));
+            let fits = (self.digits <= 10) & (self.value <= 4294967295);
+            put(self.list, self.to, (self.value % 4294967296) as u32);
+            self.pass(if fits { 1 } else { NOWHERE });
+            return;
         }
-        let bad = (16 < self.digits) | (self.digits % 2 == 1);
-        put_low(list, self.to, self.value, self.digits / 2);
-        self.after(count_of(self.digits / 2, bad))
+        let count = self.digits / 2;
+        let fits = (self.digits <= 16) & (self.digits % 2 == 0);
+        let places = part(self.list, self.to, count);
+        for (place, byte) in places.iter_mut().zip(self.value.to_le_bytes()) {
+            *place = u32::from(byte);
+        }
+        self.pass(if fits { count } else { NOWHERE });
     }
 
-    // After a sign between numbers.
-    fn after_sign(mut self, byte: u8, list: &mut [u32]) -> Run {
-        let to = self.to;
+    // A sign between numbers.
+    fn sign(&mut self, byte: u8) {
         match byte {
-            b' ' => self,
+            b' ' => {}
             b';' => {
-                let count = (10 - wrapping_sub_usize(to, self.start) % 10) % 10;
-                put_low(list, to, 0, count);
-                self.after(count)
+                let count = (10 - self.to.wrapping_sub(self.start) % 10) % 10;
+                part(self.list, self.to, count).fill(0);
+                self.pass(count);
             }
-            b'*' => {
-                self.counting = true;
-                self
-            }
-            b'(' => {
-                self.open = to;
-                self
-            }
-            b')' => {
-                self.from = self.open;
-                self
-            }
+            b'*' => self.counting = true,
+            b'(' => self.open = self.to,
+            b')' => self.from = self.open,
             b'"' => {
-                self.quoted = true;
-                self.from = to;
-                self
+                self.place = Place::Quoted;
+                self.from = self.to;
             }
-            _ => self.after(NOWHERE),
+            _ => self.pass(NOWHERE),
         }
     }
 
-    fn after_quoted(mut self, byte: u8, list: &mut [u32]) -> Run {
-        if self.escaped {
-            put_byte(list, self.to, escape(byte));
-            return self.after(1);
+    fn unquoted(&mut self, byte: u8) {
+        let radix = if self.decimal | self.counting { 10 } else { 16 };
+        match char::from(byte).to_digit(radix) {
+            Some(digit) => self.digit(u64::from(digit)),
+            None => {
+                self.end_number();
+                self.sign(byte);
+            }
         }
-        if byte == b'\\' {
-            self.escaped = true;
-            return self;
-        }
-        if byte == b'"' {
-            self.quoted = false;
-            return self;
-        }
-        put_byte(list, self.to, byte);
-        self.after(1)
     }
 
-    fn after_byte(self, byte: u8, list: &mut [u32]) -> Run {
-        if self.quoted {
-            return self.after_quoted(byte, list);
+    fn byte(&mut self, byte: u8) {
+        match (self.place, byte) {
+            (Place::Outside, _) => self.unquoted(byte),
+            (Place::Quoted, b'\\') => self.place = Place::Escaped,
+            (Place::Quoted, b'"') => self.place = Place::Outside,
+            (Place::Quoted, _) => self.put_byte(byte),
+            (Place::Escaped, _) => {
+                self.place = Place::Quoted;
+                self.put_byte(escape(byte));
+            }
         }
-        let digit = digit_of(byte, self.decimal | self.counting);
-        if digit < 16 {
-            return self.after_digit(digit);
-        }
-        let run = self.after_number(list);
-        run.after_sign(byte, list)
     }
 }
 
 // Puts the numbers of a column into a list, from a place on, and answers where they end.
 pub(crate) fn units(text: &[u8], from: usize, decimal: bool, list: &mut [u32]) -> usize {
     let mut run = Run {
+        list,
         decimal,
+        place: Place::Outside,
         counting: false,
-        quoted: false,
-        escaped: false,
         digits: 0,
         value: 0,
         start: from,
@@ -225,29 +188,23 @@ pub(crate) fn units(text: &[u8], from: usize, decimal: bool, list: &mut [u32]) -
         from,
         to: from,
     };
-    let mut i = 0;
-    while i < text.len() {
-        run = run.after_byte(text[i], list);
-        i += 1;
+    for byte in text {
+        run.byte(*byte);
     }
-    let end = run.after_number(list);
-    end.to
+    run.end_number();
+    run.to
 }
 
-// The numbers of a list as bytes.
+// The numbers of a list as bytes, the rest of which stay.
 pub(crate) fn narrow(list: &[u32], bytes: &mut [u8]) {
-    let mut i = 0;
-    while i < bytes.len() {
-        bytes[i] = (get(list, i) % 256) as u8;
-        i += 1;
+    for (byte, n) in bytes.iter_mut().zip(list) {
+        *byte = (*n % 256) as u8;
     }
 }
 
-// Bytes as numbers of a list, from a place on.
-pub(crate) fn widen(bytes: &[u8; 8192], list: &mut [u32], from: usize) {
-    let mut i = 0;
-    while i < 8192 {
-        put_byte(list, wrapping_add_usize(from, i), bytes[i]);
-        i += 1;
+// Bytes as the numbers of a list.
+pub(crate) fn widen(bytes: &[u8], list: &mut [u32]) {
+    for (place, byte) in list.iter_mut().zip(bytes) {
+        *place = u32::from(*byte);
     }
 }

@@ -45,7 +45,7 @@ pub extern "C" fn fry_read_evt2(
 ) -> ReadingNumbers
     ensures { ReadNumbers (evt2.reading_of (picture_of width height) bytes.now (room_of rows.old)) rows.old rows.new result }
 {
-    evt2::read(bytes, width, height, rows).numbers()
+    evt2::read(bytes, width, height, rows).into()
 }
 
 // The EVT2 words of rows.
@@ -53,7 +53,7 @@ pub extern "C" fn fry_read_evt2(
 pub extern "C" fn fry_write_evt2(rows: &[u32], out: &mut [u8]) -> WritingNumbers
     ensures { WroteNumbers evt2_words.spelling rows.now out.old out.new result }
 {
-    evt2::write(rows, out).numbers()
+    evt2::write(rows, out).into()
 }
 
 // The rows of EVT3 words.
@@ -66,7 +66,7 @@ pub extern "C" fn fry_read_evt3(
 ) -> ReadingNumbers
     ensures { ReadNumbers (evt3.reading_of (picture_of width height) bytes.now (room_of rows.old)) rows.old rows.new result }
 {
-    evt3::read(bytes, width, height, rows).numbers()
+    evt3::read(bytes, width, height, rows).into()
 }
 
 // The EVT3 words of rows.
@@ -74,7 +74,7 @@ pub extern "C" fn fry_read_evt3(
 pub extern "C" fn fry_write_evt3(rows: &[u32], out: &mut [u8]) -> WritingNumbers
     ensures { WroteNumbers evt3_words.spelling rows.now out.old out.new result }
 {
-    evt3::write(rows, out).numbers()
+    evt3::write(rows, out).into()
 }
 
 // The place in EVT3 words from which on a fresh reader of them misses no row.
@@ -82,7 +82,7 @@ pub extern "C" fn fry_write_evt3(rows: &[u32], out: &mut [u8]) -> WritingNumbers
 pub extern "C" fn fry_whole_evt3(bytes: &[u8]) -> WholeNumbers
     ensures { result ≡ whole_numbers (whole_from bytes.now) }
 {
-    join::whole_from(bytes).numbers()
+    join::whole_from(bytes).into()
 }
 
 // The text header of a RAW or DAT file.
@@ -90,7 +90,7 @@ pub extern "C" fn fry_whole_evt3(bytes: &[u8]) -> WholeNumbers
 pub extern "C" fn fry_read_header(bytes: &[u8], limit: u32) -> HeaderNumbers
     ensures { result ≡ header_numbers (header_of limit bytes.now) }
 {
-    header::read(bytes, limit).numbers()
+    header::read(bytes, limit).into()
 }
 
 // The rows of a RAW file of EVT2 words.
@@ -98,7 +98,7 @@ pub extern "C" fn fry_read_header(bytes: &[u8], limit: u32) -> HeaderNumbers
 pub extern "C" fn fry_read_raw_evt2(bytes: &[u8], rows: &mut [u32]) -> ReadingNumbers
     ensures { ReadNumbers (raw.reading_of Evt2 bytes.now (room_of rows.old)) rows.old rows.new result }
 {
-    raw::read(bytes, Format::Evt2, rows).numbers()
+    raw::read(bytes, Format::Evt2, rows).into()
 }
 
 // The rows of a RAW file of EVT3 words.
@@ -106,7 +106,7 @@ pub extern "C" fn fry_read_raw_evt2(bytes: &[u8], rows: &mut [u32]) -> ReadingNu
 pub extern "C" fn fry_read_raw_evt3(bytes: &[u8], rows: &mut [u32]) -> ReadingNumbers
     ensures { ReadNumbers (raw.reading_of Evt3 bytes.now (room_of rows.old)) rows.old rows.new result }
 {
-    raw::read(bytes, Format::Evt3, rows).numbers()
+    raw::read(bytes, Format::Evt3, rows).into()
 }
 
 // The rows of a DAT file.
@@ -114,7 +114,7 @@ pub extern "C" fn fry_read_raw_evt3(bytes: &[u8], rows: &mut [u32]) -> ReadingNu
 pub extern "C" fn fry_read_dat(bytes: &[u8], rows: &mut [u32]) -> ReadingNumbers
     ensures { ReadNumbers (dat.reading_of bytes.now (room_of rows.old)) rows.old rows.new result }
 {
-    dat::read(bytes, rows).numbers()
+    dat::read(bytes, rows).into()
 }
 
 // The rows of an AEDAT 3.1 file.
@@ -122,5 +122,5 @@ pub extern "C" fn fry_read_dat(bytes: &[u8], rows: &mut [u32]) -> ReadingNumbers
 pub extern "C" fn fry_read_aedat(bytes: &[u8], rows: &mut [u32]) -> ReadingNumbers
     ensures { ReadNumbers (aedat.reading_of bytes.now (room_of rows.old)) rows.old rows.new result }
 {
-    aedat::read(bytes, rows).numbers()
+    aedat::read(bytes, rows).into()
 }

@@ -7,7 +7,6 @@ pub mod GoodRead
 pub mod HeaderLines
 pub mod Headers
 pub mod Kept
-pub mod Numbers
 pub mod PacketRuns
 pub mod Places
 pub mod WholeEvents

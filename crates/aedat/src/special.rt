@@ -25,6 +25,7 @@ const EDGES: [Option<(u32, u32)>; 18] = [
 ];
 
 // The edge that a type is. The others are special events of their own, types that the table does not have among them.
+#[tactic(auto, using(crate::proofs::Edges::in_table, crate::proofs::Edges::past_table))]
 pub(crate) fn edge_of(code: u32) -> Option<(u32, u32)>
     ensures { result ≡ meaning_of code }
 {

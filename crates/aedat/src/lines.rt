@@ -52,6 +52,7 @@ fn read_line(stage: Stage, bytes: &[u8]) -> Result<Line, Fault>
 pub(crate) fn read_lines(bytes: &[u8]) -> Result<usize, HeaderError>
     ensures { result ≡ lines_of bytes.now }
 {
+    // No iterator: each line ends where its newline is found, and says which is next.
     let mut stage = Stage::Version;
     let mut at = 0;
     loop {

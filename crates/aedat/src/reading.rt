@@ -1,11 +1,11 @@
 // How far a reading has come.
 ghost use Rattle.std.specs.Prelude.{◌≡◌};
-ghost use Rattle.aedat.specs.Parts.{refused_in, fault_of};
+ghost use Rattle.aedat.specs.Parts.{refused_in};
 
 use rows::{Fault, ReadError};
-use words::Stop;
 
-// What is known after what was read, the place of what is next, and the rows that are finished.
+// What is known after what was read, the place of what is next, and the rows that are finished. The place stands beside the bytes, and they
+// are not cut off: a refusal's place counts from the first byte of the file.
 #[derive(Clone, Copy)]
 pub(crate) struct Reading<S> {
     pub state: S,
@@ -22,15 +22,6 @@ impl<S: Copy> Reading<S> {
             fault,
             rows: self.rows,
             place: self.at,
-        }
-    }
-    // The row of what is next was not written.
-    pub(crate) fn stopped(self, stop: Stop) -> ReadError
-        ensures { result ≡ refused_in self (fault_of stop) }
-    {
-        match stop {
-            Stop::Full => self.refused(Fault::NoRoom),
-            Stop::Refused(fault) => self.refused(fault),
         }
     }
 }

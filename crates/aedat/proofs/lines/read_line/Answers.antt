@@ -1,6 +1,6 @@
 -- `aedat::lines::read_line` meets its contract.
 use Rattle.aedat.proofs.HeaderLines.{line_in, step_unended, step_bare, step_returned}
-use Rattle.std.proofs.Common.{rules, ◌≡◌, ◌∙◌, sym, ◌<◌, ◌-◌, length, take, drop, [], ◌∷◌, eqb, true, false, Ok, Err, length-take-le}
+use Rattle.std.proofs.Common.{rules, ◌≡◌, ◌∙◌, sym, ◌<◌, ◌-◌, length, take, drop, [], ◌∷◌, eqb, true, false, Err, length-take-le}
 use Rattle.std.specs.Cmp.Lexicographic.{pointwise}
 use Rattle.rows.specs.declared.fault.Fault.TheVariants.{BadHeader}
 use native.Mathlib.Omega.{arith}

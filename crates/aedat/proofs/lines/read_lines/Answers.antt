@@ -1,7 +1,7 @@
 -- `aedat::lines::read_lines` meets its contract.
 use Rattle.aedat.proofs.HeaderLines.{lines_start, line_refused, good_line_in, last_line_read, good_line_read}
 use native.Mathlib.Omega.{arith}
-use Rattle.std.proofs.Common.{rules, ◌≡◌, sym, ◌∙◌, Ok, Err, Some, None}
+use Rattle.std.proofs.Common.{rules, ◌≡◌, sym, ◌∙◌, Ok, Err, None}
 use Rattle.rows.specs.declared.fault.Fault.{Fault}
 use Rattle.aedat.proofs.lines.read_lines.Goals as goal
 use Rattle.aedat.proofs.lines.read_lines.Goals.{In_ok-line, After-from_residual}

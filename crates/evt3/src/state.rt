@@ -6,7 +6,8 @@ ghost use Rattle.evt3.specs.Words.{drop_to, is_wrap, wraps_at, goes_back, bad_hi
 
 use crate::kind::Kind;
 
-// Which parts of the state are known. Flags beside their values: as Options, tried and proved, single pixels take a tenth longer to read.
+// Which parts of the state are known. Flags beside their values: as Options of structs, which was tried and proved, single pixels take a tenth
+// longer to read; and with an Option for each number the camera and the polarity would stand beside another's.
 #[derive(Clone, Copy, Debug, PartialEq, Eq)]
 pub struct Known {
     pub high: bool,

@@ -66,7 +66,7 @@ impl Reader for Words {
     }
 }
 
-// Reads EVT2 words of a picture of `width` by `height` into rows.
+// Reads EVT2 words of a picture of `width` by `height` into rows. What is refused before the first word is said here, and not with the loop, since DAT has no such picture.
 pub fn read(bytes: &[u8], width: u32, height: u32, rows: &mut [u32]) -> Result<usize, ReadError>
     ensures { ReadAs (reading_of (picture_of width height) bytes.now (room_of rows.old)) rows.old rows.new result }
 {

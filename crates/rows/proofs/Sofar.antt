@@ -10,11 +10,9 @@ use Rattle.rows.specs.declared.fault.Fault.{Fault}
 use Rattle.rows.specs.declared.fault.Fault.TheVariants.{NoRoom}
 use Rattle.std.specs.Prelude.{Result, Err}
 use Rattle.rows.specs.declared.fault.ReadError.{ReadError}
-use Rattle.rows.specs.declared.fault.ReadingNumbers.{ReadingNumbers}
 use Rattle.rows.specs.declared.row.Row.{Row}
-use Rattle.rows.specs.Fault.{reading_numbers}
 use Rattle.rows.specs.Row.{flat, room_of}
-use Rattle.rows.specs.Runs.{Ending, finished, refused, Run, prepend, stopped, give, and_then, ending_as, run_as, answer_of, ReadAs, ReadNumbers, Did}
+use Rattle.rows.specs.Runs.{Ending, finished, refused, Run, prepend, stopped, give, and_then, ending_as, run_as, answer_of, ReadAs, Did}
 use Rattle.rows.proofs.Sequence.{prepend_none, prepend_both}
 use Rattle.rows.proofs.Stored.{flat_append, flat_length, sets_append, sets_over}
 
@@ -112,9 +110,6 @@ module _ {S : Type 0} {whole : Run S} {old : List ℕ} {e : Ending S} {n : ℕ} 
   pub did_as : {T : Type 0} (f : S → T) {n₀ : ℕ} → Did whole old n₀ e n new → Did (run_as f whole) old n₀ (ending_as f e) n new
   did_as f d = record { ending = ap (ending_as f) d.ending; count = d.count; fits = d.fits; wrote = d.wrote }
 
-  pub did_length : {n₀ : ℕ} → Did whole old n₀ e n new → length new ≡ length old
-  did_length {n₀} d = ap length d.wrote ∙ length-sets old (n₀ * 10) (flat whole.rows)
-
   -- read from the front of the buffer, that is a reader's promise
   pub did_reads : {r : Result ℕ ReadError} → Did whole old 0 e n new → r ≡ answer_of e n → ReadAs whole old new r
   did_reads d q =
@@ -123,11 +118,6 @@ module _ {S : Type 0} {whole : Run S} {old : List ℕ} {e : Ending S} {n : ℕ} 
         answer = q ∙ ap₂ answer_of (sym d.ending) count;
         wrote = d.wrote ∙ sets_over (flat whole.rows) old (omega (arith, d.count, d.fits, flat_length whole.rows));
       }
-
--- and of the answer as numbers
-pub reads_numbers : {S : Type 0} {whole : Run S} {old new : List ℕ} {x : Result ℕ ReadError} {r : ReadingNumbers}
-    → ReadAs whole old new x → r ≡ reading_numbers x → ReadNumbers whole old new r
-reads_numbers h e = record { answer = e ∙ ap reading_numbers h.answer; wrote = h.wrote }
 
 -- refused before the first row
 pub reads_refused : {S : Type 0} (f : Fault) (place : ℕ) {old : List ℕ} → ReadAs {S = S} (stopped (refused f place)) old old (Err (record { fault = f; rows = 0; place = place }))

@@ -5,7 +5,7 @@ use native.Mathlib.Omega.{arith}
 use mathlib.Core.List.{List}
 use lib.ListN.{length}
 use Rattle.rows.specs.declared.row.Row.{Row}
-use Rattle.std.specs.Prelude.{Result, Ok, Err}
+use Rattle.std.specs.Prelude.{Result, Err}
 use Rattle.rows.specs.declared.fault.ReadError.{ReadError}
 use Rattle.rows.specs.Runs.{Ending, finished, refused, Run, ending_as, run_as, ending_from, run_from, EndsWithin, answer_of, ReadAs, Finishes}
 
@@ -21,19 +21,7 @@ pub as_within : {S T : Type 0} (f : S → T) (e : Ending S) (bytes : ℕ) → En
 as_within f (finished s) bytes h = tt
 as_within f (refused fault place) bytes h = h
 
--- an answer of what lies from a place on, and what is answered of the whole
-abbrev pub answer_from : ℕ → Result ℕ ReadError → Result ℕ ReadError
-answer_from at (Ok n) = Ok n
-answer_from at (Err e) = Err (record { fault = e.fault; rows = e.rows; place = at + e.place })
-
-answer_from_lem : {S : Type 0} (at : ℕ) (e : Ending S) (n : ℕ) → answer_from at (answer_of e n) ≡ answer_of (ending_from at e) n
-answer_from_lem at (finished s) n = refl
-answer_from_lem at (refused f place) n = refl
-
 module _ {S : Type 0} {run : Run S} {old new : List ℕ} {r : Result ℕ ReadError} (h : ReadAs run old new r) where
-  pub reads_from : (at : ℕ) {x : Result ℕ ReadError} → r ≡ x → ReadAs (run_from at run) old new (answer_from at x)
-  reads_from at e = record { answer = ap (answer_from at) (sym e ∙ h.answer) ∙ answer_from_lem at run.ending (length run.rows); wrote = h.wrote }
-
   -- the place of an answer where the run's lies in the input
   pub reads_place : (bytes : ℕ) → EndsWithin run.ending bytes → {x : ReadError} → r ≡ Err x → x.place ≤ bytes
   reads_place bytes w {x} e = go run.ending (length run.rows) w (sym e ∙ h.answer)

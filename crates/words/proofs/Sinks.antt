@@ -4,7 +4,7 @@ use Prim.Native.Nat.{ℕ, ◌+◌, ◌*◌, ◌/◌, ◌≤◌}
 use native.Mathlib.Omega.{arith}
 use native.Mathlib.Nat.{add-mul}
 use mathlib.Core.Bool.{Bool, true, false}
-use mathlib.Core.List.{List, [], ◌∷◌, ◌++◌, append_assoc, append-nil}
+use mathlib.Core.List.{List, [], ◌++◌, append_assoc, append-nil}
 use lib.ListN.{length, length-append}
 use Rattle.words.specs.Writer.{PutWords}
 use Rattle.words.specs.Sinks.{room, Put}
@@ -17,13 +17,6 @@ module _ {size : ℕ} where
 
   writes : {ws old new : List ℕ} {at r end : ℕ} → r ≡ at + length ws → PutWords size ws old (at * size) new end → Put true size ws old at new r
   writes e h = record { place = e; wrote = h.wrote }
-
-  -- one word
-  pub stored_word : {out new : List ℕ} {at w r k : ℕ} → k ≡ size → PutWords size (w ∷ []) out (at * k) new r → Put true size (w ∷ []) out at new (at + 1)
-  stored_word {out} {new} {at} {w} {r} e h = writes refl (subst (λ (n : ℕ). PutWords size (w ∷ []) out (at * n) new r) e h)
-
-  pub counted_word : (out : List ℕ) (at w : ℕ) → Put false size (w ∷ []) out at out (at + 1)
-  counted_word out at w = record { place = refl; wrote = refl }
 
   -- none, and some after others
   pub put_none : (k : Bool) (old : List ℕ) (at : ℕ) → Put k size [] old at old at

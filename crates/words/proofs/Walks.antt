@@ -14,7 +14,7 @@ use Rattle.rows.proofs.Judging.{Judging, judging_start, judging_done, judging_ne
 use Rattle.rows.proofs.Lists.{rest, rest_none, rest_more, rest_all}
 pub use Rattle.words.specs.Writer.{Walk, walked}
 use Rattle.words.specs.Writer.{PutWords}
-use Rattle.words.proofs.Writes.{Writes, writes_start, writes_length, writes_fit, writes_more}
+use Rattle.words.proofs.Writes.{Writes, writes_start, writes_fit, writes_more}
 
 module _ {W : Type 0} (k : Walk W) where
   -- those from row i on: the last ones, or row i's and those after it
@@ -62,9 +62,6 @@ module _ {W : Type 0} (k : Walk W) where
       }
 
   module _ {size : ℕ} {ws l old : List ℕ} {at : ℕ} {w : W} {i : ℕ} {buf : List ℕ} (h : Putting size ws l old at w i buf) where
-    pub putting_length : length buf ≡ length old
-    putting_length = writes_length h.writes
-
     -- the words after the last row
     pub putting_close : room_of l ≤ i → Writes size ws old 0 (k.close w) at buf
     putting_close f = subst (λ (left : List ℕ). Writes size ws old 0 left at buf) (none_left l w i f) h.writes

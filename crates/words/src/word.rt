@@ -27,6 +27,7 @@ pub trait Word: Into<u64> {
     ghost numbered: { (w : Self) (n : ℕ) → Self.converts w n → n ≡ number w };
 }
 
+// Three impls that differ in a type and a size: `from_le_bytes` and `first_chunk` want both written out, and no macro writes impls here.
 impl Word for u16 {
     const SIZE: usize = 2;
 

@@ -63,6 +63,7 @@ pub fn read(bytes: &[u8], limit: u32) -> Result<Header, HeaderError>
             place: 0,
         });
     }
+    // The place of a line is what a refusal answers, and lines differ in length.
     let mut at = 0;
     let mut sides = Sides::default();
     while let Some(line) = read_line(&bytes[at..], limit, sides).map_err(|fault| HeaderError {

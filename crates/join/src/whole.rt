@@ -5,7 +5,7 @@ ghost use Rattle.join.specs.Seen.{whole_from, whole_numbers};
 use crate::seen::Seen;
 use words::Word;
 
-// The answer of `whole_from` as two numbers: seen 1 and the place, or 0 and 0.
+// The answer of `whole_from` as two numbers, as the C interface has it: seen 1 and the place, or 0 and 0.
 #[repr(C)]
 #[derive(Clone, Copy, Debug, PartialEq, Eq)]
 pub struct WholeNumbers {
@@ -35,6 +35,7 @@ pub fn whole_from(bytes: &[u8]) -> Option<usize>
 {
     let mut seen = Seen::default();
     let mut at: usize = 0;
+    // The place is the answer, so it is counted.
     while let Some(word) = u16::front(&bytes[at..]) {
         let end = at + 2;
         seen = seen.with(u64::from(word));

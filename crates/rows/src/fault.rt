@@ -48,7 +48,7 @@ pub struct WriteError {
     pub row: usize,
 }
 
-// A reader's answer as three numbers: refusal 0 and place 0 where it finished.
+// A reader's answer as three numbers, as the C interface has it: refusal 0 and place 0 where it finished.
 #[repr(C)]
 #[derive(Clone, Copy, Debug, PartialEq, Eq)]
 pub struct ReadingNumbers {
@@ -57,7 +57,7 @@ pub struct ReadingNumbers {
     pub place: u64,
 }
 
-// A writer's answer as two numbers: refusal 0 and the words written, or the refusal and the row's index.
+// A writer's answer as two numbers, as the C interface has it: refusal 0 and the words written, or the refusal and the row's index.
 #[repr(C)]
 #[derive(Clone, Copy, Debug, PartialEq, Eq)]
 pub struct WritingNumbers {

@@ -33,7 +33,7 @@ impl From<u32> for Kind {
     }
 }
 
-// Whether data numbers are all 0, as unused ones are. Here and below all tests are made and joined by `&`, with no branch for each: good
+// Whether data numbers are all 0, as unused ones are. Two functions, since the rules name two tests. Here and below all tests are made and joined by `&`, with no branch for each: good
 // rows meet every one of them.
 fn are_unused<const N: usize>(numbers: [u32; N]) -> bool
     ensures { result ≡ unused numbers.entry }

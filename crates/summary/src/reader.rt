@@ -19,7 +19,7 @@ pub enum Refusal {
     BadSummary = 17,
 }
 
-// What `read` answers as two numbers: refusal 0 and the row count, or the refusal and 0.
+// What `read` answers as two numbers, as a C interface has it: refusal 0 and the row count, or the refusal and 0.
 #[repr(C)]
 #[derive(Clone, Copy, Debug, PartialEq, Eq)]
 pub struct SummaryNumbers {

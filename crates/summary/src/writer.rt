@@ -134,7 +134,7 @@ fn put_summary(rows: &[u32], out: &mut [u8])
 }
 
 // Writes the summary of a list and answers its bytes; or 13, 12 at the first bad row, or 2, with nothing touched. The times may
-// go back.
+// go back, and what is written is no words of rows, so that this is no writer of `words`.
 pub fn write(rows: &[u32], out: &mut [u8]) -> Result<usize, WriteError>
     ensures { WroteSummary rows.now out.old out.new result }
 {

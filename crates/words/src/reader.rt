@@ -79,6 +79,7 @@ pub fn read_words<R: Reader>(
     ensures { ReadAs (read_from (R.machine reader.now) bytes.now R.start from (room_of rows.old)) rows.old rows.new result }
 {
     let mut state = reader.fresh();
+    // The place of a word is what a refusal answers; words are taken from the front of what is left, and one that is cut is no chunk.
     let mut at = from;
     let mut n = 0;
     while let Some(front) = first::<R::Word>(&bytes[at..]) {

@@ -56,6 +56,7 @@ fn count<W: Writer>(rows: &[u32]) -> Result<usize, WriteError>
     let mut nothing: [u8; 0] = [];
     let mut words = 0;
     let mut standing = W::start();
+    // A `for` over indices would find each row anew and unwrap it, and an index is what a refusal answers.
     let mut i = 0;
     while let Some(row) = rows::get(rows, i) {
         if let Err(fault) = W::judge(standing, row) {
@@ -76,6 +77,7 @@ fn put_rows<W: Writer>(rows: &[u32], out: &mut [u8])
 {
     let mut at = 0;
     let mut standing = W::start();
+    // As in `count`, so that both go through a list in one way.
     let mut done = 0;
     while let Some(row) = rows::get(rows, done) {
         at = W::put::<Written>(out, at, &mut standing, row);

@@ -6,7 +6,7 @@ use rows::{Fault, ReadError};
 
 // What is known after what was read, the place of what is next, and the rows that are finished. The place stands beside the bytes, and they
 // are not cut off: a refusal's place counts from the first byte of the file.
-#[derive(Clone, Copy)]
+#[derive(Clone, Copy, Debug, PartialEq, Eq)]
 pub(crate) struct Reading<S> {
     pub state: S,
     pub at: usize,

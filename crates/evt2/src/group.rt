@@ -13,7 +13,7 @@ use words::Stop;
 pub struct Group {
     // Where it begins.
     pub place: usize,
-    // Its words so far: the last is e, the one before it d.
+    // Its words so far: the last is e, the one before it d. No array: the row names each of them, and each word would move all of it.
     pub a: u64,
     pub b: u64,
     pub c: u64,

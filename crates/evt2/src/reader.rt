@@ -34,7 +34,7 @@ impl Reader for Words {
     ghost sized = { λ words. refl };
 
     fn fresh(&self) -> State {
-        State::fresh()
+        State::default()
     }
 
     fn kind(&self, state: State, w: u64) -> Kind {

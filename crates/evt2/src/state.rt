@@ -2,7 +2,7 @@
 ghost use Rattle.std.specs.Prelude.{◌≡◌, ◌≤◌, MatchOption};
 ghost use Rattle.rows.specs.Row.{room_of};
 ghost use Rattle.words.specs.Written.{GaveAs};
-ghost use Rattle.evt2.specs.State.{fresh, pending, origin};
+ghost use Rattle.evt2.specs.State.{pending, origin};
 ghost use Rattle.evt2.specs.Words.{kind_in, pixel_of, goes_back, trigger_of, given_as, next_as};
 
 use crate::group::{Group, time_at};
@@ -10,8 +10,8 @@ use crate::kind::Kind;
 use rows::{Fault, Row};
 use words::{Picture, Stop};
 
-// What a reader knows between words.
-#[derive(Clone, Copy, Debug, PartialEq, Eq)]
+// What a reader knows between words: at first no high part, and no group in hand.
+#[derive(Clone, Copy, Debug, Default, PartialEq, Eq)]
 pub struct State {
     // The IMU reading in hand, if one is.
     pub group: Option<Group>,
@@ -20,16 +20,6 @@ pub struct State {
 }
 
 impl State {
-    // A reader that knows no high part and has no group in hand.
-    pub(crate) fn fresh() -> State
-        ensures { result ≡ fresh }
-    {
-        State {
-            group: None,
-            high: None,
-        }
-    }
-
     // Whether a group is in hand.
     pub(crate) fn is_pending(self) -> bool
         ensures { result ≡ pending self }

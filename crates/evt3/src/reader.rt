@@ -34,7 +34,7 @@ impl Reader for Stream {
     ghost sized = { λ stream. refl };
 
     fn fresh(&self) -> State {
-        State::fresh()
+        State::default()
     }
 
     fn kind(&self, _state: State, w: u64) -> Kind {

@@ -3,7 +3,7 @@ use crate::span::Span;
 use crate::told::Told;
 
 // What it has told, and the pixels of a row group that are not written yet.
-#[derive(Clone, Copy, Debug, PartialEq, Eq)]
+#[derive(Clone, Copy, Debug, Default, PartialEq, Eq)]
 pub(crate) struct Standing {
     pub told: Told,
     pub span: Span,

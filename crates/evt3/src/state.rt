@@ -1,6 +1,6 @@
 // What a reader knows between words, and what each kind of word does with it.
 ghost use Rattle.std.specs.Prelude.{◌≡◌, ◌<◌, ◌%◌, ◌/◌, MatchOption};
-ghost use Rattle.evt3.specs.State.{fresh, with_high, with_y, with_base, moved};
+ghost use Rattle.evt3.specs.State.{with_high, with_y, with_base, moved};
 ghost use Rattle.evt3.specs.declared.kind.Kind.TheVariants.{TimeHigh};
 ghost use Rattle.evt3.specs.Words.{drop_to, is_wrap, wraps_at, goes_back, bad_high, with_low, next_as};
 
@@ -8,7 +8,7 @@ use crate::kind::Kind;
 
 // Which parts of the state are known. Flags beside their values: as Options of structs, which was tried and proved, single pixels take a tenth
 // longer to read; and with an Option for each number the camera and the polarity would stand beside another's.
-#[derive(Clone, Copy, Debug, PartialEq, Eq)]
+#[derive(Clone, Copy, Debug, Default, PartialEq, Eq)]
 pub struct Known {
     pub high: bool,
     pub time: bool,
@@ -17,7 +17,7 @@ pub struct Known {
 }
 
 // What a reader knows between words. The order leaves no gaps between the fields: gaps would be copied with the state.
-#[derive(Clone, Copy, Debug, PartialEq, Eq)]
+#[derive(Clone, Copy, Debug, Default, PartialEq, Eq)]
 pub struct State {
     // Microseconds.
     pub time: u64,
@@ -36,27 +36,6 @@ pub struct State {
 }
 
 impl State {
-    // A reader that knows nothing yet.
-    pub(crate) fn fresh() -> State
-        ensures { result ≡ fresh }
-    {
-        State {
-            time: 0,
-            known: Known {
-                high: false,
-                time: false,
-                y: false,
-                base: false,
-            },
-            wraps: 0,
-            high: 0,
-            y: 0,
-            base: 0,
-            camera: 0,
-            polarity: 0,
-        }
-    }
-
     // By how much a high part drops below the known one.
     #[tactic(auto, unfolding(crate::specs::Words::drop_to))]
     fn drop_to(self, high: u16) -> u16

@@ -126,7 +126,7 @@ POINTS = [
     ("1 flags as parameters", lambda: matching(r"\bfn .*\b\w+: bool\b|^\s+\w+: bool,$(?<!pub)")),
     ("1 numbers of kinds", lambda: matching(r"\bfn (number|of|call_of|place_of|digit_of)\(")),
     ("2 twins", twins),
-    ("3 loops without `for`", lambda: matching(r"^\s*('\w+: )?(while|loop)\b(?! let)")),
+    ("3 loops without `for`", lambda: matching(r"^\s*('\w+: )?(while|loop)\b")),
     ("4 by hand", lambda: matching(r"\bfn (numbers|number|of|is_same|begins|is_named|least|later|event_of|lower|is_digit|copy_to|put_again|narrow|widen)\(")),
     ("5 together", lambda: list(together())),
     ("6 fixed buffers and tables", lambda: matching(r"= \[[^\]]*; *[0-9]+\];|^const \w+: \[|^static ")),

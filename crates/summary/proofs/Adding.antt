@@ -113,17 +113,6 @@ few_more k b r f =
       specials = omega (arith, f.specials, at_most_one (eqb r.kind 6));
     }
 
-few_enough : (k most : ℕ) (b : Block) → k ≤ most → Few k b → Few most b
-few_enough k most b h f =
-    record {
-      pixels = omega (arith, f.pixels);
-      triggers = omega (arith, f.triggers);
-      counts = omega (arith, f.counts);
-      singles = omega (arith, f.singles);
-      packets = omega (arith, f.packets);
-      specials = omega (arith, f.specials);
-    }
-
 -- the rows before row i are in the block
 pub record Adding (l : List ℕ) (from to i : ℕ) (b : Block) : Type 0 where
   pub low : from ≤ i

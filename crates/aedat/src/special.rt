@@ -2,26 +2,27 @@
 ghost use Rattle.std.specs.Prelude.{◌≡◌};
 ghost use Rattle.aedat.specs.Specials.{meaning_of};
 
-// The types that 001 defines, in order: where a type is an edge of an input, its channel, and 1 where it rises.
+// The edge of an input where its level rises, and where it falls: its channel, and 1 where it rises.
+const RISE_0: Option<(u32, u32)> = Some((0, 1));
+
+const FALL_0: Option<(u32, u32)> = Some((0, 0));
+
+const RISE_1: Option<(u32, u32)> = Some((1, 1));
+
+const FALL_1: Option<(u32, u32)> = Some((1, 0));
+
+const RISE_2: Option<(u32, u32)> = Some((2, 1));
+
+const FALL_2: Option<(u32, u32)> = Some((2, 0));
+
+const RISE_3: Option<(u32, u32)> = Some((3, 1));
+
+const FALL_3: Option<(u32, u32)> = Some((3, 0));
+
+// The types that 001 defines, in order: where a type is an edge of an input, that edge.
 const EDGES: [Option<(u32, u32)>; 18] = [
-    None,
-    None,
-    Some((0, 1)),
-    Some((0, 0)),
-    None,
-    None,
-    Some((1, 1)),
-    Some((1, 0)),
-    None,
-    Some((2, 1)),
-    Some((2, 0)),
-    None,
-    Some((3, 1)),
-    Some((3, 0)),
-    None,
-    None,
-    None,
-    None,
+    None, None, RISE_0, FALL_0, None, None, RISE_1, FALL_1, None, RISE_2, FALL_2, None, RISE_3,
+    FALL_3, None, None, None, None,
 ];
 
 // The edge that a type is. The others are special events of their own, types that the table does not have among them.

@@ -3,6 +3,8 @@
 // the table state what is wrong, to show that this is seen; the file stdout has their lines. No answer is taken from a run.
 #![tactic(auto)]
 
+ghost use Rattle.std.specs.Prelude.{◌≤◌, length, IfOk};
+
 use std::io;
 use std::io::Read;
 
@@ -37,7 +39,9 @@ impl Tally {
 
 // Reads until the buffer is full or the input ends, and answers what was read. What `std` has for this needs a `Vec`, and the heap would be one
 // more thing to trust.
-fn read_full<'a>(input: &mut impl Read, buf: &'a mut [u8]) -> io::Result<&'a [u8]> {
+fn read_full<'a>(input: &mut impl Read, buf: &'a mut [u8]) -> io::Result<&'a [u8]>
+    ensures { IfOk result (λ read. length read.now ≤ length buf.old) }
+{
     let mut done = 0;
     while done < buf.len() {
         let n = input.read(&mut buf[done..])?;

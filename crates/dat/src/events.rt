@@ -4,7 +4,7 @@ ghost use Rattle.dat.specs.Words.{fresh};
 ghost use Rattle.dat.specs.Reader.{machine};
 
 use crate::state::State;
-use words::{Picture, Reader, Stop};
+use words::{Picture, Reader, Stop, Turn};
 
 // Events of a picture.
 #[derive(Clone, Copy, Debug, PartialEq, Eq)]
@@ -17,13 +17,9 @@ impl Reader for Events {
 
     type State = State;
 
-    type Kind = ();
-
     ghost machine = { λ events. machine events.picture };
 
     ghost start = { fresh };
-
-    ghost kind_in = { λ events state w. tt };
 
     ghost sized = { λ events. refl };
 
@@ -31,23 +27,17 @@ impl Reader for Events {
         State::default()
     }
 
-    fn kind(&self, _state: State, _w: u64) {}
-
-    #[tactic(auto, using(words::proofs::Wrote::gave_onto), unfolding(crate::specs::Words::step))]
-    fn give(
+    fn step(
         &self,
-        state: State,
-        _kind: (),
+        state: &mut State,
+        _place: usize,
         w: u64,
         rows: &mut [u32],
         n: usize,
-    ) -> Result<usize, Stop> {
-        state.give(self.picture, w, rows, n)
-    }
-
-    #[tactic(auto, unfolding(crate::specs::Words::step, crate::specs::Words::event_of))]
-    fn next(&self, state: State, _kind: (), _place: usize, w: u64) -> Option<State> {
-        Some(state.event(w))
+    ) -> Result<Turn, Stop> {
+        let count = state.give(self.picture, w, rows, n)?;
+        *state = state.event(w);
+        Ok(Turn::Moves(count))
     }
 
     fn is_pending(&self, _state: State) -> bool {

@@ -13,8 +13,8 @@
 // that goes back, then 2 a slice shorter than the words. A refused writer touches nothing.
 //
 // Both run in the loops of crate `words`: `Words` is the machine that its reader asks of each word, `Spelled` what its writer asks of each row. The
-// reader's state is a struct by value. specs/Words.antt says what each word does, specs/Reader.antt what any bytes give, specs/Spelling.antt
-// what any list of rows is written as.
+// reader's state is a struct: one method takes a word, writes its row and moves the state. specs/Words.antt says what each word does,
+// specs/Reader.antt what any bytes give, specs/Spelling.antt what any list of rows is written as.
 #![tactic(auto)]
 
 mod group;

@@ -4,13 +4,11 @@ ghost use Rattle.rows.specs.Row.{room_of};
 ghost use Rattle.rows.specs.Runs.{ReadAs};
 ghost use Rattle.words.specs.Picture.{picture_of};
 ghost use Rattle.evt2.specs.State.{fresh};
-ghost use Rattle.evt2.specs.Words.{kind_in};
 ghost use Rattle.evt2.specs.Reader.{machine, reading_of};
 
-use crate::kind::Kind;
 use crate::state::State;
 use rows::ReadError;
-use words::{Picture, Reader, Stop};
+use words::{Picture, Reader, Stop, Turn};
 
 // EVT2 words of a picture.
 #[derive(Clone, Copy)]
@@ -23,13 +21,9 @@ impl Reader for Words {
 
     type State = State;
 
-    type Kind = Kind;
-
     ghost machine = { λ words. machine words.picture };
 
     ghost start = { fresh };
-
-    ghost kind_in = { λ words state w. kind_in state w };
 
     ghost sized = { λ words. refl };
 
@@ -37,24 +31,15 @@ impl Reader for Words {
         State::default()
     }
 
-    fn kind(&self, state: State, w: u64) -> Kind {
-        state.kind(w)
-    }
-
-    fn give(
+    fn step(
         &self,
-        state: State,
-        kind: Kind,
+        state: &mut State,
+        place: usize,
         w: u64,
         rows: &mut [u32],
         n: usize,
-    ) -> Result<usize, Stop> {
-        state.give(kind, self.picture, w, rows, n)
-    }
-
-    #[tactic(auto, using(crate::proofs::Steps::leads))]
-    fn next(&self, state: State, kind: Kind, place: usize, w: u64) -> Option<State> {
-        state.next(kind, place, w)
+    ) -> Result<Turn, Stop> {
+        state.step(self.picture, place, w, rows, n)
     }
 
     fn is_pending(&self, state: State) -> bool {

@@ -1,14 +1,15 @@
 // What a reader knows between words, and what each kind of word gives and sets.
-ghost use Rattle.std.specs.Prelude.{◌≡◌, ◌≤◌, MatchOption};
+ghost use Rattle.std.specs.Prelude.{◌≡◌, ◌≤◌};
 ghost use Rattle.rows.specs.Row.{room_of};
-ghost use Rattle.words.specs.Written.{GaveAs};
-ghost use Rattle.evt2.specs.State.{pending, origin};
-ghost use Rattle.evt2.specs.Words.{kind_in, pixel_of, goes_back, trigger_of, given_as, next_as};
+ghost use Rattle.words.specs.Machine.{onto};
+ghost use Rattle.words.specs.Written.{GaveAs, StepAs};
+ghost use Rattle.evt2.specs.State.{pending, origin, with_group, further};
+ghost use Rattle.evt2.specs.Words.{pixel_of, goes_back, trigger_of, inside_of, step};
 
 use crate::group::{Group, time_at};
 use crate::kind::Kind;
 use rows::{Fault, Row};
-use words::{Picture, Stop};
+use words::{Picture, Stop, Turn};
 
 // What a reader knows between words: at first no high part, and no group in hand.
 #[derive(Clone, Copy, Debug, Default, PartialEq, Eq)]
@@ -38,22 +39,10 @@ impl State {
         }
     }
 
-    // The kind of a word in this state.
-    #[tactic(auto, unfolding(crate::specs::Words::kind_in))]
-    pub(crate) fn kind(self, w: u64) -> Kind
-        ensures { result ≡ kind_in self w }
-    {
-        match self.group {
-            Some(group) => Kind::Inside(group),
-            None => Kind::from(w),
-        }
-    }
-
     // CD_OFF, CD_ON: one pixel, if the high part is known.
     #[tactic(auto, unfolding(crate::specs::Words::pixel_of))]
     fn cd(self, picture: Picture, w: u64, rows: &mut [u32], n: usize) -> Result<usize, Stop>
-        requires { n ≤ room_of rows.old }
-        ensures { GaveAs (pixel_of picture self w) n rows.old rows.new result }
+        ensures { n ≤ room_of rows.old → GaveAs (pixel_of picture self w) n rows.old rows.new result }
     {
         match self.high {
             Some(high) => {
@@ -72,8 +61,7 @@ impl State {
     // EXT_TRIGGER: one trigger, if the high part is known.
     #[tactic(auto, unfolding(crate::specs::Words::trigger_of))]
     fn ext_trigger(self, w: u64, rows: &mut [u32], n: usize) -> Result<usize, Stop>
-        requires { n ≤ room_of rows.old }
-        ensures { GaveAs (trigger_of self w) n rows.old rows.new result }
+        ensures { n ≤ room_of rows.old → GaveAs (trigger_of self w) n rows.old rows.new result }
     {
         match self.high {
             Some(high) => {
@@ -95,58 +83,57 @@ impl State {
         }
     }
 
-    // What a word of a kind gives: its row, if it has one and there is room, or its refusal.
-    pub(crate) fn give(
-        self,
-        kind: Kind,
+    // Reads a word at a place: writes its row, if it has one and there is room, and moves the state, if it sets something.
+    pub(crate) fn step(
+        &mut self,
         picture: Picture,
+        place: usize,
         w: u64,
         rows: &mut [u32],
         n: usize,
-    ) -> Result<usize, Stop>
-        requires { n ≤ room_of rows.old }
-        ensures { GaveAs (given_as kind picture self w) n rows.old rows.new result }
+    ) -> Result<Turn, Stop>
+        ensures { n ≤ room_of rows.old → StepAs (step picture self.old place w) self.old n rows.old rows.new result self.new }
     {
-        match kind {
-            Kind::Cd => self.cd(picture, w, rows, n),
+        // Asked before the word's kind, so that no group is copied into the kind.
+        if let Some(group) = self.group {
+            return self.inside(group, w, rows, n);
+        }
+        match Kind::from(w) {
+            Kind::Cd => {
+                let count = self.cd(picture, w, rows, n)?;
+                Ok(Turn::Stays(count))
+            }
             Kind::TimeHigh => {
                 if self.goes_back(w) {
                     return Err(Stop::Refused(Fault::BadTime));
                 }
-                Ok(n)
+                self.high = Some((w % 268435456) as u32);
+                Ok(Turn::Moves(n))
             }
-            Kind::ExtTrigger => self.ext_trigger(w, rows, n),
-            Kind::ImuEvt | Kind::Others | Kind::Continued => Ok(n),
+            Kind::ExtTrigger => {
+                let count = self.ext_trigger(w, rows, n)?;
+                Ok(Turn::Stays(count))
+            }
+            Kind::ImuEvt => match self.high {
+                // An IMU reading begins, if the high part is known.
+                Some(high) => {
+                    self.group = Some(Group::begun(high, place, w));
+                    Ok(Turn::Moves(n))
+                }
+                None => Ok(Turn::Stays(n)),
+            },
+            Kind::Others | Kind::Continued => Ok(Turn::Stays(n)),
             Kind::Reserved => Err(Stop::Refused(Fault::Reserved)),
-            Kind::Inside(group) => group.give(w, rows, n),
+            Kind::Inside(group) => self.inside(group, w, rows, n),
         }
     }
 
-    // The state after a word of a kind at a place, where the word sets something.
-    #[tactic(auto, unfolding(crate::specs::Words::imu_begun))]
-    pub(crate) fn next(self, kind: Kind, place: usize, w: u64) -> Option<State>
-        ensures { MatchOption result (next_as kind self place w ≡ self) (λ t. t ≡ next_as kind self place w) }
+    // One word more of a group.
+    fn inside(&mut self, group: Group, w: u64, rows: &mut [u32], n: usize) -> Result<Turn, Stop>
+        ensures { n ≤ room_of rows.old → StepAs (onto (inside_of group w) (with_group self.old (further group w))) self.old n rows.old rows.new result self.new }
     {
-        match kind {
-            // The high part.
-            Kind::TimeHigh => Some(State {
-                high: Some((w % 268435456) as u32),
-                ..self
-            }),
-            // An IMU reading begins, if the high part is known.
-            Kind::ImuEvt => match self.high {
-                Some(high) => Some(State {
-                    group: Some(Group::begun(high, place, w)),
-                    ..self
-                }),
-                None => None,
-            },
-            // One word more of the group in hand.
-            Kind::Inside(group) => Some(State {
-                group: group.further(w),
-                ..self
-            }),
-            _ => None,
-        }
+        let count = group.give(w, rows, n)?;
+        self.group = group.further(w);
+        Ok(Turn::Moves(count))
     }
 }

@@ -4,13 +4,11 @@ ghost use Rattle.rows.specs.Row.{room_of};
 ghost use Rattle.rows.specs.Runs.{ReadAs};
 ghost use Rattle.words.specs.Picture.{picture_of};
 ghost use Rattle.evt3.specs.State.{fresh};
-ghost use Rattle.evt3.specs.Words.{kind_of};
 ghost use Rattle.evt3.specs.Reader.{machine, reading_of};
 
-use crate::kind::Kind;
 use crate::state::State;
 use rows::ReadError;
-use words::{Picture, Reader, Stop};
+use words::{Picture, Reader, Stop, Turn};
 
 // Words of a picture.
 #[derive(Clone, Copy, Debug, PartialEq, Eq)]
@@ -23,13 +21,9 @@ impl Reader for Stream {
 
     type State = State;
 
-    type Kind = Kind;
-
     ghost machine = { λ stream. machine stream.picture };
 
     ghost start = { fresh };
-
-    ghost kind_in = { λ stream state w. kind_of w };
 
     ghost sized = { λ stream. refl };
 
@@ -37,23 +31,15 @@ impl Reader for Stream {
         State::default()
     }
 
-    fn kind(&self, _state: State, w: u64) -> Kind {
-        Kind::from(w)
-    }
-
-    fn give(
+    fn step(
         &self,
-        state: State,
-        kind: Kind,
+        state: &mut State,
+        _place: usize,
         w: u64,
         rows: &mut [u32],
         n: usize,
-    ) -> Result<usize, Stop> {
-        state.give(kind, self.picture, w, rows, n)
-    }
-
-    fn next(&self, state: State, kind: Kind, _place: usize, w: u64) -> Option<State> {
-        state.next(kind, w)
+    ) -> Result<Turn, Stop> {
+        state.step(self.picture, w, rows, n)
     }
 
     fn is_pending(&self, _state: State) -> bool {

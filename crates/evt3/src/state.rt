@@ -1,10 +1,7 @@
 // What a reader knows between words, and what each kind of word does with it.
-ghost use Rattle.std.specs.Prelude.{◌≡◌, ◌<◌, ◌%◌, ◌/◌, MatchOption};
+ghost use Rattle.std.specs.Prelude.{◌≡◌, ◌<◌, ◌%◌, ◌/◌};
 ghost use Rattle.evt3.specs.State.{with_high, with_y, with_base, moved};
-ghost use Rattle.evt3.specs.declared.kind.Kind.TheVariants.{TimeHigh};
-ghost use Rattle.evt3.specs.Words.{drop_to, is_wrap, wraps_at, goes_back, bad_high, with_low, next_as};
-
-use crate::kind::Kind;
+ghost use Rattle.evt3.specs.Words.{drop_to, is_wrap, wraps_at, goes_back, bad_high, with_low};
 
 // Which parts of the state are known. Flags beside their values: as Options of structs, which was tried and proved, single pixels take a tenth
 // longer to read; and with an Option for each number the camera and the polarity would stand beside another's.
@@ -85,7 +82,7 @@ impl State {
     }
 
     // EVT_TIME_HIGH: the high part, and not the time.
-    fn time_high(mut self, w: u64) -> State
+    pub(crate) fn time_high(mut self, w: u64) -> State
         requires { wraps_at self (w % 4096) < 1024 }
         ensures { result ≡ with_high self (w % 4096) (wraps_at self (w % 4096)) }
     {
@@ -98,7 +95,7 @@ impl State {
 
     // EVT_TIME_LOW: the time, if a high part is known.
     #[tactic(auto, unfolding(crate::specs::Words::with_low))]
-    fn time_low(mut self, w: u64) -> State
+    pub(crate) fn time_low(mut self, w: u64) -> State
         ensures { result ≡ with_low self (w % 4096) }
     {
         if self.known.high {
@@ -109,7 +106,7 @@ impl State {
     }
 
     // EVT_ADDR_Y: the line and its camera.
-    fn addr_y(mut self, w: u64) -> State
+    pub(crate) fn addr_y(mut self, w: u64) -> State
         ensures { result ≡ with_y self (w % 2048) (w / 2048 % 2) }
     {
         self.y = (w % 2048) as u16;
@@ -129,13 +126,13 @@ impl State {
     }
 
     // VECT_BASE_X: the base and its polarity, no event.
-    fn vect_base_x(self, w: u64) -> State
+    pub(crate) fn vect_base_x(self, w: u64) -> State
         ensures { result ≡ with_base self (w % 2048) (w / 2048 % 2) }
     {
         self.with_base((w % 2048) as u16, (w / 2048 % 2) as u8)
     }
 
-    // VECT_12 and VECT_8, whatever their bits are: after n columns a known base moves on, and stops at 2,048.
+    // After n columns: a known base moves on, and stops at 2,048.
     #[tactic(auto, unfolding(crate::specs::State::moved))]
     fn moved(self, n: u16) -> State
         ensures { result ≡ moved n self }
@@ -149,24 +146,18 @@ impl State {
         }
         self
     }
-    // The state after a word of a kind that is not refused, or none where it sets nothing: ADDR_X does not move the base.
-    pub(crate) fn next(self, kind: Kind, w: u64) -> Option<State>
-        requires { kind ≡ TimeHigh → wraps_at self (w % 4096) < 1024 }
-        ensures { MatchOption result (next_as kind self w ≡ self) (λ t. t ≡ next_as kind self w) }
+
+    // VECT_12, whatever its bits are.
+    pub(crate) fn vect_12(self, _w: u64) -> State
+        ensures { result ≡ moved 12 self }
     {
-        match kind {
-            Kind::AddrY => Some(self.addr_y(w)),
-            Kind::VectBaseX => Some(self.vect_base_x(w)),
-            Kind::Vect12 => Some(self.moved(12)),
-            Kind::Vect8 => Some(self.moved(8)),
-            Kind::TimeLow => Some(self.time_low(w)),
-            Kind::TimeHigh => Some(self.time_high(w)),
-            Kind::AddrX
-            | Kind::ExtTrigger
-            | Kind::Continued4
-            | Kind::Others
-            | Kind::Continued12
-            | Kind::Reserved => None,
-        }
+        self.moved(12)
+    }
+
+    // VECT_8, whatever its bits are.
+    pub(crate) fn vect_8(self, _w: u64) -> State
+        ensures { result ≡ moved 8 self }
+    {
+        self.moved(8)
     }
 }

@@ -52,7 +52,7 @@ module _ (judged : Row → ℕ → Result ℕ Fault) (l : List ℕ) (needed coun
     wrote_refused h = as_refused (rw (rows_judged, same_refused (verdict_by judged (rows_of l) 0 0) count h))
 
     module _ {n : ℕ} (is : Ok n ≡ writing_of (verdict_by judged (rows_of l) 0 0) count) where
-      passed : verdict_by judged (rows_of l) 0 0 ≡ accepted
+      pub passed : verdict_by judged (rows_of l) 0 0 ≡ accepted
       passed = (same_written (verdict_by judged (rows_of l) 0 0) is).0
 
       pub count_same : n ≡ count

@@ -53,9 +53,12 @@ impl Block {
     }
 }
 
+// The rows of a block, but for the last.
+const BLOCK: usize = 256;
+
 // How many blocks so many rows make.
 pub fn block_count(rows: usize) -> usize
     ensures { result ≡ block_count rows }
 {
-    rows.div_ceil(256)
+    rows.div_ceil(BLOCK)
 }

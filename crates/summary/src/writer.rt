@@ -1,5 +1,5 @@
 // The writer of a summary: the list is judged before a byte is written.
-ghost use Rattle.std.specs.Prelude.{◌≡◌, ◌++◌, ◌+◌, ◌-◌, ◌*◌, ◌≤◌, ◌<◌, length};
+ghost use Rattle.std.specs.Prelude.{◌≡◌, [], ◌∷◌, ◌++◌, ◌+◌, ◌-◌, ◌*◌, ◌≤◌, ◌<◌, length};
 ghost use Rattle.std.proofs.lemmas.List.Edits.{sets};
 ghost use Rattle.rows.specs.Row.{room_of, row_from, rows_from, rows_of};
 ghost use Rattle.rows.specs.Rules.{good_row};
@@ -10,7 +10,7 @@ ghost use Rattle.summary.specs.Stored.{field, block_bytes, block_fields, stored_
 ghost use Rattle.summary.specs.Verdicts.{verdict_by, in_any_order};
 ghost use Rattle.summary.specs.Writer.{Few, Within, Puts, add_row, WroteSummary};
 
-use crate::{Block, block_count};
+use crate::{BLOCK, Block, block_count};
 use rows::{Fault, Row, WriteError};
 use words::{Word, put_word};
 
@@ -77,6 +77,14 @@ fn block_of(rows: &[u32], from: usize, to: usize) -> Block
     block
 }
 
+// A word of a number that has room; answers the place after it.
+fn put_number<W: Word>(out: &mut [u8], at: usize, number: u64) -> usize
+    requires { at + W.SIZE ≤ length out.old }
+    ensures { PutWords W.SIZE (number ∷ []) out.old at out.new result }
+{
+    put_word::<W>(out, at, number).unwrap()
+}
+
 // Words of numbers at a place, one after the other; answers the place after them, as put_head and put_block do.
 fn put_words<W: Word>(out: &mut [u8], at: usize, numbers: &[u64]) -> usize
     requires { at + length numbers.now * W.SIZE ≤ length out.old }
@@ -84,7 +92,7 @@ fn put_words<W: Word>(out: &mut [u8], at: usize, numbers: &[u64]) -> usize
 {
     let mut at = at;
     for number in numbers {
-        at = put_word::<W>(out, at, *number);
+        at = put_number::<W>(out, at, *number);
     }
     at
 }
@@ -95,7 +103,7 @@ fn put_head(out: &mut [u8], at: usize, tag: u8, size: u64) -> usize
     ensures { Puts (bytes_of 1 tag ++ bytes_of 2 size) out.old at out.new result }
 {
     out[at] = tag;
-    put_word::<u16>(out, at + 1, size)
+    put_number::<u16>(out, at + 1, size)
 }
 
 // The field of a block.
@@ -117,8 +125,8 @@ fn put_blocks(rows: &[u32], out: &mut [u8], at: usize)
     let n = rows::room(rows);
     let mut at = at;
     for j in 0..block_count(n) {
-        let from = j * 256;
-        let to = n.min(from + 256);
+        let from = j * BLOCK;
+        let to = n.min(from + BLOCK);
         at = put_block(out, at, block_of(rows, from, to));
     }
 }
@@ -129,7 +137,7 @@ fn put_summary(rows: &[u32], out: &mut [u8])
     ensures { out.new ≡ sets out.old 0 (stored_of (rows_of rows.now)) }
 {
     let count = put_head(out, 0, 1, 4);
-    let blocks = put_word::<u32>(out, count, rows::room(rows) as u64);
+    let blocks = put_number::<u32>(out, count, rows::room(rows) as u64);
     put_blocks(rows, out, blocks);
 }
 

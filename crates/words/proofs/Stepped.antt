@@ -1,5 +1,5 @@
 -- How what a format's methods answer keeps or ends the loop that reads words, where the machine has the size of the format's word.
-use mathlib.Core.Path.{◌≡◌, sym, ◌∙◌, ap}
+use mathlib.Core.Path.{◌≡◌, refl, sym, ◌∙◌, ap, subst}
 use Prim.Native.Nat.{ℕ, ◌+◌, ◌-◌, ◌≤◌, ◌<◌}
 use native.Mathlib.Omega.{arith}
 use mathlib.Core.Bool.{true, false}
@@ -8,14 +8,17 @@ use lib.ListN.{length, take, drop}
 use Rattle.std.specs.Prelude.{Option, Some, None, Result, Ok, Err}
 use Rattle.rows.specs.declared.fault.Fault.{Fault}
 use Rattle.rows.specs.declared.fault.Fault.TheVariants.{NoRoom, Cut}
+use Rattle.rows.specs.Row.{room_of}
 use Rattle.rows.specs.Runs.{Run, ReadAs}
 use Rattle.words.specs.declared.Stop.{Stop}
 use Rattle.words.specs.declared.Stop.TheVariants.{Full, Refused}
+use Rattle.words.specs.declared.Turn.{Turn}
+use Rattle.words.specs.declared.Turn.TheVariants.{Stays, Moves}
 use Rattle.words.specs.Machine.{Machine, Reached}
 use Rattle.words.specs.Words.{first_of, words_of, next_at}
-use Rattle.words.specs.Written.{given_of, next_of, GaveAs}
+use Rattle.words.specs.Written.{next_of, StepAs}
 use Rattle.words.proofs.Cut.{part_found}
-use Rattle.words.proofs.Between.{Between, found, word_in, goes_on_gave, ends_whole, ends_pending, ends_part, ends_gave_full, ends_gave}
+use Rattle.words.proofs.Between.{Between, between_room, found, word_in, goes_on_gave, ends_whole, ends_pending, ends_part, ends_gave_full, ends_gave}
 use Rattle.words.proofs.Wrote.{onto_given}
 
 module _ {S : Type 0} {m : Machine S} {bytes : List ℕ} {whole : Run (Reached S)} {old : List ℕ} {s : S} {at n : ℕ} {buf : List ℕ}
@@ -38,21 +41,34 @@ module _ {S : Type 0} {m : Machine S} {bytes : List ℕ} {whole : Run (Reached S
       let cut : f ≡ Cut = (part_found (words_of m.size (drop at bytes)) there).1 in
       rw (o, cut) (ends_part h (rw cut at there))
 
-  -- a word was read, and gave its rows or none
-  module _ (some : 0 < size) {w : ℕ} (is : r ≡ Some (Ok w)) {buf' : List ℕ} {q : Result ℕ Stop} (gave : GaveAs (given_of (m.step s at w)) n buf buf' q) where
+  -- a word was read
+  module _ (some : 0 < size) {w : ℕ} (is : r ≡ Some (Ok w)) {buf' : List ℕ} {q : Result Turn Stop} {t : S} (stepped : n ≤ room_of buf → StepAs (m.step s at w) s n buf buf' q t) where
+    -- what it answered
+    answered : {v : Result Turn Stop} → q ≡ v → StepAs (m.step s at w) s n buf buf' v t
+    answered e = subst (λ (a : Result Turn Stop). StepAs (m.step s at w) s n buf buf' a t) e (stepped (between_room h))
+
     has_bytes : 0 < m.size
     has_bytes = omega (arith, sized, some)
 
     pub step_within : at + size ≤ length bytes
     step_within = omega (arith, sized, word_in h has_bytes (here is))
 
-    -- and leads to a state
-    pub step_done : {s' : S} {k j : ℕ} → q ≡ Ok k → s' ≡ next_of (m.step s at w) s → j ≡ size → Between m bytes whole old 0 s' (at + j) k buf'
-    step_done e to f =
-        rw (to, f, sym sized) (goes_on_gave h has_bytes (here is) (next_of (m.step s at w) s) (onto_given (m.step s at w) s) gave e)
+    -- its rows were written, and it set something or nothing
+    pub step_moved : {k j : ℕ} → q ≡ Ok (Moves k) → j ≡ size → Between m bytes whole old 0 t (at + j) k buf'
+    step_moved e f =
+        let done = answered e in
+        rw (done.leads, f, sym sized) (goes_on_gave h has_bytes (here is) (next_of (m.step s at w) s) (onto_given (m.step s at w) s) done.gave refl)
 
+    pub step_stayed : {k j : ℕ} → q ≡ Ok (Stays k) → j ≡ size → Between m bytes whole old 0 s (at + j) k buf'
+    step_stayed {k} {j} e f =
+        let done = answered e in
+        subst (λ (a : S). Between m bytes whole old 0 a (at + j) k buf') (sym done.leads.1)
+        (rw (f, sym sized) (goes_on_gave h has_bytes (here is) (next_of (m.step s at w) s) (onto_given (m.step s at w) s) done.gave refl))
+
+    -- or had no room, or it was refused
     pub step_full : {origin : ℕ} → q ≡ Err Full → origin ≡ m.origin s at → ReadAs whole old buf' (Err (record { fault = NoRoom; rows = n; place = origin }))
-    step_full e o = rw o (ends_gave_full h has_bytes (here is) (next_of (m.step s at w) s) (onto_given (m.step s at w) s) gave e)
+    step_full e o =
+        rw o (ends_gave_full h has_bytes (here is) (next_of (m.step s at w) s) (onto_given (m.step s at w) s) (answered e).gave refl)
 
     pub step_refused : {f : Fault} → q ≡ Err (Refused f) → ReadAs whole old buf' (Err (record { fault = f; rows = n; place = at }))
-    step_refused e = ends_gave h has_bytes (here is) (next_of (m.step s at w) s) (onto_given (m.step s at w) s) gave e
+    step_refused e = ends_gave h has_bytes (here is) (next_of (m.step s at w) s) (onto_given (m.step s at w) s) (answered e).gave refl

@@ -2,7 +2,7 @@
 use mathlib.Core.Path.{◌≡◌, refl, sym, ◌∙◌, ap, subst}
 use Prim.Native.Nat.{ℕ, ◌+◌, ◌*◌, ◌/◌, ◌≤◌, ◌<◌}
 use native.Mathlib.Omega.{arith}
-use native.Mathlib.Nat.{add-mul, le-div_iff_mul-le}
+use native.Mathlib.Nat.{add-mul, le-div_iff_mul-le, div-le_self}
 use mathlib.Core.Bool.{true}
 use mathlib.Core.List.{List, [], ◌++◌, append-nil}
 use lib.ListN.{length}
@@ -18,7 +18,7 @@ use Rattle.words.specs.Writer.{Spelling, spelled, writing_of, PutWords, Walk, Sp
 use Rattle.words.proofs.Sinks.{written}
 use Rattle.words.proofs.Walks.{Counting, counting_start, counting_done, counting_refused, counting_next}
 use Rattle.words.proofs.Walks.{Putting, putting_start, putting_close, row_fits, putting_next}
-use Rattle.words.proofs.Writes.{Writes, writes_fit, writes_more, writes_done}
+use Rattle.words.proofs.Writes.{Writes, writes_length, writes_fit, writes_more, writes_done}
 
 module _ {W : Type 0} {s : Spelling} {k : Walk W} {start : W} {last : W → ℕ} (p : Spells s k start last) where
   -- i rows passed
@@ -89,9 +89,13 @@ module _ {W : Type 0} {s : Spelling} {k : Walk W} {start : W} {last : W → ℕ}
       }
 
   module _ {size : ℕ} (some : 0 < size) {l old : List ℕ} {at : ℕ} {w : W} {i : ℕ} {buf : List ℕ} (h : Wrote size l old at w i buf)
-      (room : length (spelled s l) * size ≤ length old) where
+      (room : length (spelled s l) * size ≤ length old) (small : length old ≤ 18446744073709551615) where
     fits_in : (n : ℕ) → at * size + n * size ≤ length buf → at + n ≤ length buf / size
     fits_in n f = (le-div_iff_mul-le some).1 (omega (arith, f, add-mul at n size))
+
+    -- no place is too large
+    places_small : (n : ℕ) → at + n ≤ length buf / size → at + n ≤ 18446744073709551615
+    places_small n f = omega (arith, f, div-le_self (length buf) size, writes_length h.putting.writes, small)
 
     -- what is left after the last row
     module _ (f : room_of l ≤ i) where
@@ -103,7 +107,7 @@ module _ {W : Type 0} {s : Spelling} {k : Walk W} {start : W} {last : W → ℕ}
       close_fits = fits_in (length (k.close w)) (writes_fit (k.close w) [] close_here (omega (arith, room)))
 
       pub wrote_all : {end : ℕ} {buf' : List ℕ} → Put true size (k.close w) buf at buf' end → PutWords size (spelled s l) old 0 buf' (end * size)
-      wrote_all q = writes_done (writes_more (k.close w) close_here (written q))
+      wrote_all q = writes_done (writes_more (k.close w) close_here (written close_fits (places_small (length (k.close w)) close_fits) q))
 
     module _ {r : Row} (f : i < room_of l) (e : r ≡ row_from l (i * 10)) where
       pub words_fit : at + length (k.words w r) ≤ length buf / size
@@ -111,4 +115,5 @@ module _ {W : Type 0} {s : Spelling} {k : Walk W} {start : W} {last : W → ℕ}
 
       pub wrote_next : {at' : ℕ} {next : W} {buf' : List ℕ} → Put true size (k.words w r) buf at buf' at' → next ≡ k.next w r
           → Wrote size l old at' next (i + 1) buf'
-      wrote_next {at'} {next} {buf'} q n = rw n (record { putting = putting_next k h.putting f e (written q) })
+      wrote_next {at'} {next} {buf'} q n =
+          rw n (record { putting = putting_next k h.putting f e (written words_fit (places_small (length (k.words w r)) words_fit) q) })

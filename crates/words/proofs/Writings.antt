@@ -74,11 +74,11 @@ module _ (s : Spelling) (l old : List ℕ) where
         rw (word_count e) (as_accepted (rw (judged, passed e, sym (word_count e), le-leb _ _ f)) (rw (sym (word_count e)) f) g)
 
 -- the room for n words of a size, as a quotient
-module _ {n room size k : ℕ} (s : Spelling) (sized : s.size ≡ size) (some : 0 < size) (is : k ≡ size) where
-  pub too_few : room / k < n → room < n * s.size
+module _ {n bytes size k : ℕ} (s : Spelling) (sized : s.size ≡ size) (some : 0 < size) (is : k ≡ bytes / size) where
+  pub too_few : k < n → bytes < n * s.size
   too_few h = rw sized ((div-lt_iff_lt-mul some).0 (rw is at h))
 
-  pub enough : n ≤ room / k → n * s.size ≤ room
+  pub enough : n ≤ k → n * s.size ≤ bytes
   enough h = rw sized ((le-div_iff_mul-le some).0 (rw is at h))
 
 -- a list that passes 13, 12 and 5 is refused where the buffer is shorter than its words, and there alone

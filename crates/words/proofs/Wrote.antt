@@ -15,9 +15,10 @@ use Rattle.rows.specs.Row.{flat, room_of, PutRow}
 use Rattle.rows.proofs.Stored.{put_row_fits}
 use Rattle.words.specs.declared.Stop.{Stop}
 use Rattle.words.specs.declared.Stop.TheVariants.{Full, Refused}
-use Rattle.words.specs.Machine.{Outcome, next, fault, Given, gives, refuses, onto}
+use Rattle.words.specs.declared.Turn.TheVariants.{Stays, Moves}
+use Rattle.words.specs.Machine.{Outcome, next, fault, Given, gives, refuses, refused_if, onto}
 pub use Rattle.words.specs.Written.{next_of}
-use Rattle.words.specs.Written.{given_of, GaveAs}
+use Rattle.words.specs.Written.{given_of, GaveAs, StepAs}
 
 -- an outcome is what it gives with its next state, and any state where it is refused
 pub given_onto : {S : Type 0} (g : Given) (s : S) → given_of (onto g s) ≡ g
@@ -67,6 +68,33 @@ module _ {row : Row} {n : ℕ} {old buf : List ℕ} {r : Bool} (put : PutRow old
 -- one row that another function made, by words::give
 pub gave_row : {row made : Row} → made ≡ row → {n : ℕ} {old buf : List ℕ} {r : Result ℕ Stop} → GaveAs (gives (made ∷ [])) n old buf r → GaveAs (gives (row ∷ [])) n old buf r
 gave_row e {n} {old} {buf} {r} h = subst (λ (q : Row). GaveAs (gives (q ∷ [])) n old buf r) e h
+
+-- a word that is refused where a test is true
+pub gave_refused_if : {t : Bool} → t ≡ true → (f : Fault) (n : ℕ) (old : List ℕ) → GaveAs (refused_if t f) n old old (Err (Refused f))
+gave_refused_if e f n old = rw e (gave_refused f n old)
+
+pub gave_none_if : {t : Bool} → t ≡ false → (f : Fault) (n : ℕ) (old : List ℕ) → n ≤ room_of old → GaveAs (refused_if t f) n old old (Ok n)
+gave_none_if e f n old room = rw e (gave_none n old room)
+
+-- a word read: it is refused or has no room; its rows are written, and it leads to a state, or leaves the one before
+module _ {S : Type 0} where
+  pub step_stops : (g : Given) (s to : S) {n : ℕ} {old new : List ℕ} {e : Stop} → GaveAs g n old new (Err e) → StepAs (onto g to) s n old new (Err e) s
+  step_stops g s to h = record { gave = gave_onto to h; leads = refl }
+
+  pub step_moves : (g : Given) (s t : S) {n : ℕ} {old new : List ℕ} {k : ℕ} → GaveAs g n old new (Ok k) → StepAs (onto g t) s n old new (Ok (Moves k)) t
+  step_moves (gives new) s t h = record { gave = h; leads = refl }
+  step_moves (refuses f) s t h = no_stop (sym h.answer)
+
+  pub step_stays : (g : Given) (s : S) {n : ℕ} {old new : List ℕ} {k : ℕ} → GaveAs g n old new (Ok k) → StepAs (onto g s) s n old new (Ok (Stays k)) s
+  step_stays (gives new) s h = record { gave = h; leads = (refl, refl) }
+  step_stays (refuses f) s h = no_stop (sym h.answer)
+
+  -- one that gives no row
+  pub step_sets : (s t : S) (n : ℕ) (old : List ℕ) → n ≤ room_of old → StepAs (onto (gives []) t) s n old old (Ok (Moves n)) t
+  step_sets s t n old room = step_moves (gives []) s t (gave_none n old room)
+
+  pub step_rests : (s : S) (n : ℕ) (old : List ℕ) → n ≤ room_of old → StepAs (onto (gives []) s) s n old old (Ok (Stays n)) s
+  step_rests s n old room = step_stays (gives []) s (gave_none n old room)
 
 -- what the answer says
 pub record WroteAll (g : Given) (n : ℕ) (old buf : List ℕ) (k : ℕ) : Type 0 where

@@ -1,5 +1,5 @@
--- Where the words of a row go: into a slice, or nowhere.
-use Rattle.std.specs.Prelude.{◌≡◌, ℕ, ◌+◌, ◌*◌, ◌/◌, Bool, true, false, List, length}
+-- Where the words of a row go: into a slice, or nowhere. Any words may go to any place: those that have no room are left out.
+use Rattle.std.specs.Prelude.{◌≡◌, ℕ, ◌+◌, ◌*◌, ◌/◌, ◌%◌, Bool, true, false, cond, List, [], ◌∷◌, length, ltb}
 use Rattle.std.proofs.lemmas.List.Edits.{sets}
 use Rattle.words.specs.Words.{bytes_of_all}
 
@@ -8,12 +8,26 @@ abbrev pub room : (writes : Bool) → ℕ → List ℕ → ℕ
 room true size out = length out / size
 room false size out = 18446744073709551615
 
--- the slice after words were put from a place on
+-- the place after one, a number of 64 bits
+abbrev pub place_after : ℕ → ℕ
+place_after at = (at + 1) % 18446744073709551616
+
+-- a slice after a word was put at a place, where it has room there
+abbrev pub stored : ℕ → List ℕ → ℕ → ℕ → List ℕ
+stored size out at w = cond (ltb at (room true size out)) (sets out (at * size) (bytes_of_all size (w ∷ []))) out
+
+-- the slice after words were put one after the other, the first of them at a place
 abbrev pub after : (writes : Bool) → ℕ → List ℕ → ℕ → List ℕ → List ℕ
-after true size out at ws = sets out (at * size) (bytes_of_all size ws)
+after true size out at [] = out
+after true size out at (w ∷ ws) = after true size (stored size out at w) (place_after at) ws
 after false size out at ws = out
+
+-- and the place after them
+abbrev pub places_after : ℕ → List ℕ → ℕ
+places_after at [] = at
+places_after at (w ∷ ws) = places_after (place_after at) ws
 
 -- words were put from a place on, and the answer is the place after them
 pub record Put (writes : Bool) (size : ℕ) (ws old : List ℕ) (at : ℕ) (new : List ℕ) (r : ℕ) : Type 0 where
-  pub place : r ≡ at + length ws
+  pub place : r ≡ places_after at ws
   pub wrote : new ≡ after writes size old at ws

@@ -2,16 +2,16 @@
 //
 // A format of words is a machine over a state of its own: the size of a word, what a word does to the state and which
 // rows it gives, where the group in hand begins, and whether one is. What the machine gives for any bytes is said once,
-// in specs/Machine.antt, and one loop runs every machine. What a list of rows is written as is said in specs/Writer.antt.
+// in specs/Machine.antt, and one loop runs the machine of each format of words. What a list of rows is written as is said in specs/Writer.antt.
 //
 //     Word                          a word of two, four or eight bytes: u16, u32, u64
 //     first::<W>(bytes)             the word at the front of a slice, a part of one, or the end
-//     put_word::<W>(out, at, n)     a number stored as a word
+//     put_word::<W>(out, at, n)     a number stored as a word, where it has room
 //     Reader, read_words            a format that is read, and the loop that reads it
 //     Writer, write                 a format that is written, and the function that writes it
 //     Sink, Written, Counted        where its words go: into a slice, or nowhere, where they are counted alone
 //     give(rows, n, row)            a word's row into a lent slice, after the n that are there
-//     Stop                          why a word's rows were not written
+//     Turn, Stop                    that a word was read, and why it was not
 //     admit(bytes, picture)         refusals 1 and 14, which come before the first word
 //     Picture                       the picture that pixels lie in
 //
@@ -41,6 +41,13 @@ pub use writer::{Writer, write};
 pub enum Stop {
     Full,
     Refused(Fault),
+}
+
+// A word that was read: how many rows there are then, and whether it set something.
+#[derive(Clone, Copy, Debug, PartialEq, Eq)]
+pub enum Turn {
+    Stays(usize),
+    Moves(usize),
 }
 
 // One row after the n that are in the slice, if there is room for it: so many are finished then. The slice and n stay two parameters here and

@@ -1,17 +1,23 @@
 // Where words go: into a slice, or nowhere, where they are counted alone. So the words of a row are said once, for counting and for writing.
-ghost use Rattle.std.specs.Prelude.{Bool, true, false, ◌<◌, [], ◌∷◌};
+ghost use Rattle.std.specs.Prelude.{◌≡◌, Bool, true, false, [], ◌∷◌};
 ghost use Rattle.words.specs.Sinks.{room, Put};
 
-use crate::word::{Word, put_word};
+use crate::word::{Word, store};
 
-// A place for words, the first of which is word 0.
+// How many words a slice has room for.
+pub(crate) fn room<W: Word>(out: &[u8]) -> usize
+    ensures { result ≡ room true W.SIZE out.now }
+{
+    out.len() / W::SIZE
+}
+
+// A place for words, the first of which is word 0. It takes any word at any place, so that it asks nothing: a word that has no room there is left out.
 pub trait Sink {
     // Whether words are written into the slice.
     ghost writes: { Bool };
 
     // Puts word `at`, and answers the place after it.
     fn word<W: Word>(out: &mut [u8], at: usize, word: u64) -> usize
-        requires { at < room writes W.SIZE out.old }
         ensures { Put writes W.SIZE (word ∷ []) out.old at out.new result };
 }
 
@@ -27,8 +33,10 @@ impl Sink for Written {
     ghost writes = { true };
 
     fn word<W: Word>(out: &mut [u8], at: usize, word: u64) -> usize {
-        put_word::<W>(out, at * W::SIZE, word);
-        at + 1
+        if at < room::<W>(out) {
+            store::<W>(out, at * W::SIZE, word);
+        }
+        at.wrapping_add(1)
     }
 }
 
@@ -36,6 +44,6 @@ impl Sink for Counted {
     ghost writes = { false };
 
     fn word<W: Word>(_out: &mut [u8], at: usize, _word: u64) -> usize {
-        at + 1
+        at.wrapping_add(1)
     }
 }

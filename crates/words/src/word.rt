@@ -97,11 +97,21 @@ pub fn first<W: Word>(bytes: &[u8]) -> Option<Result<u64, Fault>>
 }
 
 // Stores a word, the lowest bytes of a number, and answers the place after it.
-pub fn put_word<W: Word>(out: &mut [u8], at: usize, word: u64) -> usize
+pub(crate) fn store<W: Word>(out: &mut [u8], at: usize, word: u64) -> usize
     requires { at + W.SIZE ≤ length out.old }
     ensures { PutWords W.SIZE (word ∷ []) out.old at out.new result }
 {
     let end = at + W::SIZE;
     out[at..end].copy_from_slice(&word.to_le_bytes()[..W::SIZE]);
     end
+}
+
+// Stores a word where there is room for it, and answers the place after it. Where there is none it answers none, and touches nothing.
+pub fn put_word<W: Word>(out: &mut [u8], at: usize, word: u64) -> Option<usize>
+    ensures { MatchOption result ((length out.old < at + W.SIZE) × (out.new ≡ out.old)) (λ end. (at + W.SIZE ≤ length out.old) × PutWords W.SIZE (word ∷ []) out.old at out.new end) }
+{
+    if out.len() < at.saturating_add(W::SIZE) {
+        return None;
+    }
+    Some(store::<W>(out, at, word))
 }

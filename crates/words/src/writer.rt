@@ -3,11 +3,11 @@ ghost use Rattle.std.specs.Prelude.{◌≡◌, ℕ, ◌+◌, ◌*◌, ◌≤◌,
 ghost use Rattle.std.proofs.lemmas.List.Edits.{sets};
 ghost use Rattle.rows.specs.Row.{rows_of};
 ghost use Rattle.rows.specs.Rules.{accepted, judged_of, verdict_from};
-ghost use Rattle.words.specs.Sinks.{room, Put};
+ghost use Rattle.words.specs.Sinks.{Put};
 ghost use Rattle.words.specs.Words.{bytes_of_all};
 ghost use Rattle.words.specs.Writer.{Spelling, spelled, writing_of, WroteAs, Walk, Spells};
 
-use crate::sink::{Counted, Sink, Written};
+use crate::sink::{Counted, Sink, Written, room};
 use crate::word::Word;
 use rows::{Fault, Row, WriteError};
 
@@ -35,13 +35,11 @@ pub trait Writer {
 
     // What a row adds, put into a sink from word `at` on. It answers the place after it.
     fn put<S: Sink>(out: &mut [u8], at: usize, standing: &mut Self::Standing, row: Row) -> usize
-        requires { at + length (walk.words standing.old row) ≤ room S.writes Self.Word.SIZE out.old }
         ensures put { Put S.writes Self.Word.SIZE (walk.words standing.old row) out.old at out.new result }
         ensures next { standing.new ≡ walk.next standing.old row };
 
     // What is left after the last row.
     fn close<S: Sink>(out: &mut [u8], at: usize, standing: Self::Standing) -> usize
-        requires { at + length (walk.close standing) ≤ room S.writes Self.Word.SIZE out.old }
         ensures { Put S.writes Self.Word.SIZE (walk.close standing) out.old at out.new result };
 
     // The words of a list have the size of the type.
@@ -50,8 +48,7 @@ pub trait Writer {
 
 // Judges rows one after the other and counts their words: what is to be written if there is room.
 fn count<W: Writer>(rows: &[u32]) -> Result<usize, WriteError>
-    requires walks { Spells W.spelling W.walk W.begin W.last }
-    ensures { result ≡ writing_of (verdict_from W.spelling.writable (rows_of rows.now) 0 0) (length (spelled W.spelling rows.now)) }
+    ensures { Spells W.spelling W.walk W.begin W.last → result ≡ writing_of (verdict_from W.spelling.writable (rows_of rows.now) 0 0) (length (spelled W.spelling rows.now)) }
 {
     let mut nothing: [u8; 0] = [];
     let mut words = 0;
@@ -70,10 +67,7 @@ fn count<W: Writer>(rows: &[u32]) -> Result<usize, WriteError>
 
 // Writes the words of rows that were judged, into a slice that they fit.
 fn put_rows<W: Writer>(rows: &[u32], out: &mut [u8])
-    requires walks { Spells W.spelling W.walk W.begin W.last }
-    requires passed { verdict_from W.spelling.writable (rows_of rows.now) 0 0 ≡ accepted }
-    requires fits { length (spelled W.spelling rows.now) * W.Word.SIZE ≤ length out.old }
-    ensures { out.new ≡ sets out.old 0 (bytes_of_all W.Word.SIZE (spelled W.spelling rows.now)) }
+    ensures { Spells W.spelling W.walk W.begin W.last → verdict_from W.spelling.writable (rows_of rows.now) 0 0 ≡ accepted → length (spelled W.spelling rows.now) * W.Word.SIZE ≤ length out.old → out.new ≡ sets out.old 0 (bytes_of_all W.Word.SIZE (spelled W.spelling rows.now)) }
 {
     let mut at = 0;
     let mut standing = W::start();
@@ -90,8 +84,7 @@ fn put_rows<W: Writer>(rows: &[u32], out: &mut [u8])
 // format alone, and no law of the trait says it, since a law can rest on no lemma of the format's proofs/: the rows of a list that passes add the words
 // of its spelling.
 pub fn write<W: Writer>(rows: &[u32], out: &mut [u8]) -> Result<usize, WriteError>
-    requires walks { Spells W.spelling W.walk W.begin W.last }
-    ensures { WroteAs W.spelling rows.now out.old out.new result }
+    ensures { Spells W.spelling W.walk W.begin W.last → WroteAs W.spelling rows.now out.old out.new result }
 {
     if !rows::good_length(rows) {
         return Err(WriteError {
@@ -100,7 +93,7 @@ pub fn write<W: Writer>(rows: &[u32], out: &mut [u8]) -> Result<usize, WriteErro
         });
     }
     let words = count::<W>(rows)?;
-    if out.len() / W::Word::SIZE < words {
+    if room::<W::Word>(out) < words {
         return Err(WriteError {
             fault: Fault::NoRoom,
             row: 0,

@@ -2,5 +2,5 @@
 use Rattle.evt3.proofs.RowSteps.{spells}
 use Rattle.evt3.proofs.writer.write.Goals as goal
 
-pub write-requires : goal.write-requires
-write-requires c = record { walks = spells }
+pub returns : goal.returns
+returns c = c.write.ensures spells

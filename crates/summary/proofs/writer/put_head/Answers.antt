@@ -4,4 +4,4 @@ use Rattle.summary.proofs.Putting.{puts_byte, puts_word, puts_then}
 use Rattle.summary.proofs.writer.put_head.Goals as goal
 
 pub returns : goal.returns
-returns c = puts_then (puts_byte c.args.out.now c.args.at c.args.tag (omega arith)) (puts_word c.put_word.ensures)
+returns c = puts_then (puts_byte c.args.out.now c.args.at c.args.tag (omega arith)) (puts_word c.put_number.ensures)

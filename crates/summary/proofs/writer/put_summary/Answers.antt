@@ -10,17 +10,17 @@ use Rattle.summary.specs.Stored.{field, block_fields, stored_of}
 use Rattle.summary.proofs.Putting.{puts_long, puts_word, puts_then, head_length}
 use Rattle.summary.proofs.writer.put_summary.Goals as goal
 
-pub put_word-blocks-requires : goal.put_word-blocks-requires
-put_word-blocks-requires c = omega (arith, head_length 1 4, puts_long c.put_head-count.ensures, c.put_head-count.ensures.place)
+pub put_number-blocks-requires : goal.put_number-blocks-requires
+put_number-blocks-requires c = omega (arith, head_length 1 4, puts_long c.put_head-count.ensures, c.put_head-count.ensures.place)
 
 pub put_blocks-requires : goal.put_blocks-requires
-put_blocks-requires c = omega (arith, head_length 1 4, puts_long c.put_head-count.ensures, put_length c.put_word-blocks.ensures, c.put_head-count.ensures.place, c.put_word-blocks.ensures.place, c.requires)
+put_blocks-requires c = omega (arith, head_length 1 4, puts_long c.put_head-count.ensures, put_length c.put_number-blocks.ensures, c.put_head-count.ensures.place, c.put_number-blocks.ensures.place, c.requires)
 
 pub returns : goal.returns
 unfolding field stored_of bytes_of
 returns c =
     let rows : List ℕ = c.args.rows.now in
     let blocks : List ℕ = block_fields (summary_of (rows_of rows)) in
-    let count = puts_then c.put_head-count.ensures (puts_word c.put_word-blocks.ensures) in
+    let count = puts_then c.put_head-count.ensures (puts_word c.put_number-blocks.ensures) in
     (puts_then {b = blocks} count (record { place = refl; wrote = c.put_blocks.ensures })).wrote
     ∙ ap (λ (n : ℕ). sets c.args.out.now 0 (field 1 (bytes_of 4 n) ++ blocks)) (c.room.ensures ∙ sym (rows_of_length rows))

@@ -8,4 +8,4 @@ loop-number-preserved g c =
     let k = c.loop-number.number-index in
     let numbers = c.args.numbers.now in
     let inside : k < length numbers = omega arith in
-    rw (add-one k) (writes_more (get_or numbers k 0 ∷ []) (rw (sym (drop-cons numbers k 0 inside)) c.loop-number.invariant) c.put_word-at.ensures)
+    rw (add-one k) (writes_more (get_or numbers k 0 ∷ []) (rw (sym (drop-cons numbers k 0 inside)) c.loop-number.invariant) c.put_number-at.ensures)

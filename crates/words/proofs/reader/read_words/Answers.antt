@@ -1,49 +1,49 @@
 -- `words::reader::read_words` meets its contract.
 use mathlib.Core.Path.{sym, ◌∙◌, ap}
 use native.Mathlib.Omega.{arith}
-use Rattle.std.specs.Prelude.{Some, Err}
+use Rattle.std.specs.Prelude.{Some, Ok, Err}
 use Rattle.words.proofs.Between.{between_start}
-use Rattle.words.proofs.Stepped.{done_whole, done_pending, done_part, step_within, step_done, step_full, step_refused}
+use Rattle.words.proofs.Stepped.{done_whole, done_pending, done_part, step_within, step_moved, step_stayed, step_full, step_refused}
 use Rattle.words.proofs.reader.read_words.Goals as goal
 
 pub loop-front-init : goal.loop-front-init
-loop-front-init g c = rw c.fresh-state.ensures (between_start _ _ _ _ _ c.requires)
+loop-front-init g c = rw (c.fresh-state.ensures, c.min-at.ensures) (between_start _ _ _ _ _ (omega arith))
 
 pub returns-in-Err : goal.returns-in-Err
 returns-in-Err g c = done_part c.loop-front.invariant (g.met.R.Reader.sized _) c.first.ensures (c.in-Some.is ∙ ap Some c.in-Err.is) c.origin.ensures
 
 pub returns-in-Err-Full : goal.returns-in-Err-Full
 returns-in-Err-Full g c =
-    step_full c.loop-front.invariant (g.met.R.Reader.sized _) c.first.ensures g.met.R.Word.Word.some (c.in-Some.is ∙ ap Some c.in-Ok.is) (c.give.ensures c.loop-front.at)
+    step_full c.loop-front.invariant (g.met.R.Reader.sized _) c.first.ensures g.met.R.Word.Word.some (c.in-Some.is ∙ ap Some c.in-Ok.is) c.step.ensures
     (c.in-Err-Full.is ∙ ap Err c.in-Err-Full.field-0-is) c.origin-in-Err-Full.ensures
 
 pub returns-in-Err-Refused : goal.returns-in-Err-Refused
 returns-in-Err-Refused g c =
     rw c.in-Err-Refused.fault-is
-    (step_refused c.loop-front.invariant (g.met.R.Reader.sized _) c.first.ensures g.met.R.Word.Word.some (c.in-Some.is ∙ ap Some c.in-Ok.is) (c.give.ensures c.loop-front.at)
+    (step_refused c.loop-front.invariant (g.met.R.Reader.sized _) c.first.ensures g.met.R.Word.Word.some (c.in-Some.is ∙ ap Some c.in-Ok.is) c.step.ensures
     (c.in-Err-Refused.is ∙ ap Err c.in-Err-Refused.field-0-is))
-
-pub loop-front-smaller-in-Some-next : goal.loop-front-smaller-in-Some-next
-loop-front-smaller-in-Some-next g c =
-    let within =
-    step_within c.loop-front.invariant (g.met.R.Reader.sized _) c.first.ensures g.met.R.Word.Word.some (c.in-Some.is ∙ ap Some c.in-Ok.is) (c.give.ensures c.loop-front.at) in
-    omega (arith, within, g.met.R.Word.Word.some, c.SIZE-at.ensures)
-
-pub loop-front-preserved-in-Some-next : goal.loop-front-preserved-in-Some-next
-loop-front-preserved-in-Some-next g c =
-    step_done c.loop-front.invariant (g.met.R.Reader.sized _) c.first.ensures g.met.R.Word.Word.some (c.in-Some.is ∙ ap Some c.in-Ok.is) (c.give.ensures c.loop-front.at)
-    c.in-Ok-give.is c.in-Some-next.ensures c.SIZE-at.ensures
 
 pub loop-front-smaller : goal.loop-front-smaller
 loop-front-smaller g c =
-    let within =
-    step_within c.loop-front.invariant (g.met.R.Reader.sized _) c.first.ensures g.met.R.Word.Word.some (c.in-Some.is ∙ ap Some c.in-Ok.is) (c.give.ensures c.loop-front.at) in
+    let within = step_within c.loop-front.invariant (g.met.R.Reader.sized _) c.first.ensures g.met.R.Word.Word.some (c.in-Some.is ∙ ap Some c.in-Ok.is) c.step.ensures in
     omega (arith, within, g.met.R.Word.Word.some, c.SIZE-at.ensures)
 
 pub loop-front-preserved : goal.loop-front-preserved
 loop-front-preserved g c =
-    step_done c.loop-front.invariant (g.met.R.Reader.sized _) c.first.ensures g.met.R.Word.Word.some (c.in-Some.is ∙ ap Some c.in-Ok.is) (c.give.ensures c.loop-front.at)
-    c.in-Ok-give.is (sym c.in_default-next.ensures) c.SIZE-at.ensures
+    rw c.in-Ok-Stays.count-is
+    (step_stayed c.loop-front.invariant (g.met.R.Reader.sized _) c.first.ensures g.met.R.Word.Word.some (c.in-Some.is ∙ ap Some c.in-Ok.is) c.step.ensures
+    (c.in-Ok-Stays.is ∙ ap Ok c.in-Ok-Stays.field-0-is) c.SIZE-at.ensures)
+
+pub loop-front-smaller-in-Ok-Moves : goal.loop-front-smaller-in-Ok-Moves
+loop-front-smaller-in-Ok-Moves g c =
+    let within = step_within c.loop-front.invariant (g.met.R.Reader.sized _) c.first.ensures g.met.R.Word.Word.some (c.in-Some.is ∙ ap Some c.in-Ok.is) c.step.ensures in
+    omega (arith, within, g.met.R.Word.Word.some, c.SIZE-at-in-Ok-Moves.ensures)
+
+pub loop-front-preserved-in-Ok-Moves : goal.loop-front-preserved-in-Ok-Moves
+loop-front-preserved-in-Ok-Moves g c =
+    rw c.in-Ok-Moves.count-is
+    (step_moved c.loop-front.invariant (g.met.R.Reader.sized _) c.first.ensures g.met.R.Word.Word.some (c.in-Some.is ∙ ap Some c.in-Ok.is) c.step.ensures
+    (c.in-Ok-Moves.is ∙ ap Ok c.in-Ok-Moves.field-0-is) c.SIZE-at-in-Ok-Moves.ensures)
 
 pub returns-then-is_pending : goal.returns-then-is_pending
 returns-then-is_pending g c =

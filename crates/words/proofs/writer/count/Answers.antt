@@ -2,29 +2,28 @@
 use mathlib.Core.Path.{sym, ◌∙◌}
 use native.Mathlib.Omega.{arith}
 use Rattle.rows.proofs.Lists.{row_found, row_past}
+use Rattle.words.proofs.Sinks.{placed}
 use Rattle.words.proofs.Writers.{counts_start, counts_done, counts_refused, counts_next, close_room, row_room}
 use Rattle.words.proofs.writer.count.Goals as goal
 
 pub loop-row-init : goal.loop-row-init
-loop-row-init g c = (c.requires.walks, rw c.start-standing.ensures (counts_start _ _))
+loop-row-init g c = λ p. rw c.start-standing.ensures (counts_start p _)
 
 pub returns-in-Err : goal.returns-in-Err
 returns-in-Err g c =
     let here = row_found c.args.rows.now c.loop-row.i (sym c.in-Some.is ∙ c.get.ensures) in
-    counts_refused _ c.loop-row.invariant.1 here.0 here.1 (sym c.in-Err.is ∙ c.judge.ensures)
-
-pub put-words-requires : goal.put-words-requires
-put-words-requires g c =
-    let here = row_found c.args.rows.now c.loop-row.i (sym c.in-Some.is ∙ c.get.ensures) in
-    omega (arith, row_room _ c.loop-row.invariant.1 here.0 here.1 (sym c.in_default-judge.is ∙ c.judge.ensures), c.well_formed)
+    λ p. counts_refused p (c.loop-row.invariant p) here.0 here.1 (sym c.in-Err.is ∙ c.judge.ensures)
 
 pub loop-row-preserved : goal.loop-row-preserved
 loop-row-preserved g c =
     let here = row_found c.args.rows.now c.loop-row.i (sym c.in-Some.is ∙ c.get.ensures) in
-    (c.loop-row.invariant.0, counts_next _ c.loop-row.invariant.1 here.0 here.1 (sym c.in_default-judge.is ∙ c.judge.ensures) c.put-words.ensures.put.place c.put-words.ensures.next)
-
-pub close-requires : goal.close-requires
-close-requires g c = omega (arith, close_room _ c.loop-row.invariant.1, c.well_formed)
+    let judged = sym c.in_default-judge.is ∙ c.judge.ensures in
+    λ p.
+    counts_next p (c.loop-row.invariant p) here.0 here.1 judged
+    (placed (omega (arith, row_room p (c.loop-row.invariant p) here.0 here.1 judged, c.well_formed)) c.put-words.ensures.put) c.put-words.ensures.next
 
 pub returns : goal.returns
-returns g c = counts_done _ c.loop-row.invariant.1 (row_past c.args.rows.now c.loop-row.i (sym c.in_default.is ∙ c.get.ensures)) c.close.ensures.place
+returns g c =
+    λ p.
+    counts_done p (c.loop-row.invariant p) (row_past c.args.rows.now c.loop-row.i (sym c.in_default.is ∙ c.get.ensures))
+    (placed (omega (arith, close_room p (c.loop-row.invariant p), c.well_formed)) c.close.ensures)

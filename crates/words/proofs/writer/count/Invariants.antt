@@ -8,7 +8,7 @@ use Rattle.words.proofs.writer.count.Given as goal
 abbrev pub invariant-loop-row : goal.invariant-loop-row
 invariant-loop-row g l =
     let w = g.W.Writer in
-    (p : Spells w.spelling w.walk w.begin w.last) × Counts p l.rows l.words l.standing l.i
+    (p : Spells w.spelling w.walk w.begin w.last) → Counts p l.rows l.words l.standing l.i
 
 abbrev pub decreases-loop-row : goal.decreases-loop-row
 decreases-loop-row g l = room_of l.rows - l.i

@@ -1,7 +1,7 @@
 -- `evt3::state::State::count_pixels` meets its contract.
 use mathlib.Core.Path.{sym, ◌∙◌}
 use Rattle.evt3.proofs.Counting.{pixel_counting_start, pixel_counting_none}
-use Rattle.evt3.proofs.Counting.{pixel_counting_in, pixel_counting_out, pixel_counting_ends}
+use Rattle.evt3.proofs.Counting.{pixel_counting_in, pixel_counting_out, pixel_counting_ends, pixel_counting_over}
 use Rattle.evt3.proofs.state.State.count_pixels.Goals as goal
 use Rattle.evt3.proofs.state.State.count_pixels.Goals.{then-left-eq1+else-not-holds, else-left-eq1}
 
@@ -21,5 +21,8 @@ loop-x-preserved c =
       | else-left-eq1 w ↦ pixel_counting_none i t w.if-left-eq1.false w.count-is
     ]
 
-pub returns : goal.returns
-returns c = pixel_counting_ends c.loop-x.invariant c.loop-x-test.false
+pub returns-then-left-eq0 : goal.returns-then-left-eq0
+returns-then-left-eq0 c = pixel_counting_over c.loop-x.invariant c.if-left-eq0.true
+
+pub returns-after-loop-x : goal.returns-after-loop-x
+returns-after-loop-x c = pixel_counting_ends c.loop-x.invariant c.loop-x-test.false

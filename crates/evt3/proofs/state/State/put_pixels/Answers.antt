@@ -1,5 +1,5 @@
 -- `evt3::state::State::put_pixels` meets its contract.
-use Rattle.evt3.proofs.Storing.{storing_none, storing_some, storing_ends}
+use Rattle.evt3.proofs.Storing.{storing_none, storing_some, storing_ends, storing_over}
 use Rattle.evt3.proofs.state.State.put_pixels.Goals as goal
 use Rattle.evt3.proofs.state.State.put_pixels.Goals.{then-left-eq1, else-left-eq1}
 
@@ -12,5 +12,8 @@ loop-x-preserved c =
       | else-left-eq1 w ↦ storing_none i t w.if-left-eq1.false w.rows-is w.to-is
     ]
 
-pub returns : goal.returns
-returns c = storing_ends c.loop-x.invariant c.loop-x-test.false
+pub returns-then-left-eq0 : goal.returns-then-left-eq0
+returns-then-left-eq0 c = storing_over c.loop-x.invariant c.if-left-eq0.true
+
+pub returns-after-loop-x : goal.returns-after-loop-x
+returns-after-loop-x c = storing_ends c.loop-x.invariant c.loop-x-test.false

@@ -1,6 +1,6 @@
--- `words::word::put_word` meets its contract.
+-- `words::word::store` meets its contract.
 use Rattle.words.proofs.Writes.{put_lowest}
-use Rattle.words.proofs.word.put_word.Goals as goal
+use Rattle.words.proofs.word.store.Goals as goal
 
 pub returns : goal.returns
 returns g c =

@@ -1,0 +1,12 @@
+-- `evt2::state::State::inside` meets its contract.
+use Rattle.std.proofs.lemmas.Result.{err_from_is_err_and}
+use Rattle.words.proofs.Wrote.{step_stops, step_moves}
+use Rattle.evt2.proofs.state.State.inside.Goals as goal
+
+pub returns-in_err-count : goal.returns-in_err-count
+returns-in_err-count c =
+    let e = err_from_is_err_and c.from_residual.result c.from_residual.ensures.1 in
+    λ room. rw (e.1, e.2) (step_stops _ _ _ (c.in_err-count.ensures room))
+
+pub returns : goal.returns
+returns c = λ room. rw c.further-self.ensures (step_moves _ _ _ (c.in_ok-count.ensures room))

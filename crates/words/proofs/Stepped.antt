@@ -59,16 +59,16 @@ module _ {S : Type 0} {m : Machine S} {bytes : List ℕ} {whole : Run (Reached S
         let done = answered e in
         rw (done.leads, f, sym sized) (goes_on_gave h has_bytes (here is) (next_of (m.step s at w) s) (onto_given (m.step s at w) s) done.gave refl)
 
-    pub step_stayed : {k j : ℕ} → q ≡ Ok (Stays k) → j ≡ size → Between m bytes whole old 0 s (at + j) k buf'
-    step_stayed {k} {j} e f =
+    pub step_stayed : {k j : ℕ} → q ≡ Ok (Stays k) → j ≡ size → Between m bytes whole old 0 t (at + j) k buf'
+    step_stayed e f =
         let done = answered e in
-        subst (λ (a : S). Between m bytes whole old 0 a (at + j) k buf') (sym done.leads.1)
-        (rw (f, sym sized) (goes_on_gave h has_bytes (here is) (next_of (m.step s at w) s) (onto_given (m.step s at w) s) done.gave refl))
+        rw (done.leads.0 ∙ done.leads.1, f, sym sized) (goes_on_gave h has_bytes (here is) (next_of (m.step s at w) s) (onto_given (m.step s at w) s) done.gave refl)
 
     -- or had no room, or it was refused
-    pub step_full : {origin : ℕ} → q ≡ Err Full → origin ≡ m.origin s at → ReadAs whole old buf' (Err (record { fault = NoRoom; rows = n; place = origin }))
+    pub step_full : {origin : ℕ} → q ≡ Err Full → origin ≡ m.origin t at → ReadAs whole old buf' (Err (record { fault = NoRoom; rows = n; place = origin }))
     step_full e o =
-        rw o (ends_gave_full h has_bytes (here is) (next_of (m.step s at w) s) (onto_given (m.step s at w) s) (answered e).gave refl)
+        let done = answered e in
+        rw (o, done.leads) (ends_gave_full h has_bytes (here is) (next_of (m.step s at w) s) (onto_given (m.step s at w) s) done.gave refl)
 
     pub step_refused : {f : Fault} → q ≡ Err (Refused f) → ReadAs whole old buf' (Err (record { fault = f; rows = n; place = at }))
     step_refused e = ends_gave h has_bytes (here is) (next_of (m.step s at w) s) (onto_given (m.step s at w) s) (answered e).gave refl

@@ -71,8 +71,7 @@ pub fn read_words<R: Reader>(
                 });
             }
             Ok(w) => {
-                let mut next = state;
-                match reader.step(&mut next, at, w, rows, n) {
+                match reader.step(&mut state, at, w, rows, n) {
                     Err(Stop::Full) => {
                         return Err(ReadError {
                             fault: Fault::NoRoom,
@@ -97,7 +96,6 @@ pub fn read_words<R: Reader>(
                     Ok(Turn::Moves(count)) => {
                         n = count;
                         at += R::Word::SIZE;
-                        state = next;
                         continue;
                     }
                 }

@@ -19,8 +19,9 @@ const RISE_3: Option<(u32, u32)> = Some((3, 1));
 
 const FALL_3: Option<(u32, u32)> = Some((3, 0));
 
-// The types that 001 defines, in order: where a type is an edge of an input, that edge.
-const EDGES: [Option<(u32, u32)>; 18] = [
+// The types that 001 defines, in order: where a type is an edge of an input, that edge. It is a static, since a constant of this type is made anew for
+// each event.
+static EDGES: [Option<(u32, u32)>; 18] = [
     None, None, RISE_0, FALL_0, None, None, RISE_1, FALL_1, None, RISE_2, FALL_2, None, RISE_3,
     FALL_3, None, None, None, None,
 ];

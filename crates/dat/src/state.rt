@@ -32,7 +32,7 @@ impl State {
         rows: &mut [u32],
         n: usize,
     ) -> Result<usize, Stop>
-        ensures { n ≤ room_of rows.old → GaveAs (event_of picture self w) n rows.old rows.new result }
+        ensures { GaveAs (event_of picture self w) n rows.old rows.new result }
     {
         let time = w % 4294967296;
         if time < self.last as u64 {

@@ -101,7 +101,7 @@ impl Group {
     // A word inside an IMU reading: the last one gives the row.
     #[tactic(auto, unfolding(crate::specs::Words::inside_of))]
     pub(crate) fn give(self, w: u64, rows: &mut [u32], n: usize) -> Result<usize, Stop>
-        ensures { n ≤ room_of rows.old → GaveAs (inside_of self w) n rows.old rows.new result }
+        ensures { GaveAs (inside_of self w) n rows.old rows.new result }
     {
         if w / 268435456 % 16 == 15 {
             if self.is_last() {

@@ -1,10 +1,11 @@
 // What a reader knows between words, and what each kind of word gives and sets.
-ghost use Rattle.std.specs.Prelude.{◌≡◌, ◌≤◌};
-ghost use Rattle.rows.specs.Row.{room_of};
+ghost use Rattle.std.specs.Prelude.{◌≡◌, ℕ, true, Some, None};
+ghost use Rattle.words.specs.Fields.{field};
 ghost use Rattle.words.specs.Machine.{onto};
 ghost use Rattle.words.specs.Written.{GaveAs, StepAs};
-ghost use Rattle.evt2.specs.State.{pending, origin, with_group, further};
-ghost use Rattle.evt2.specs.Words.{pixel_of, goes_back, trigger_of, inside_of, step};
+ghost use Rattle.evt2.specs.declared.kind.Kind.TheVariants.{Cd};
+ghost use Rattle.evt2.specs.State.{pending, origin, with_high, with_group, further};
+ghost use Rattle.evt2.specs.Words.{kind_in, is_before, pixel_at, trigger_at, inside_of, step};
 
 use crate::group::{Group, time_at};
 use crate::kind::Kind;
@@ -39,48 +40,30 @@ impl State {
         }
     }
 
-    // CD_OFF, CD_ON: one pixel, if the high part is known.
-    #[tactic(auto, unfolding(crate::specs::Words::pixel_of))]
-    fn cd(self, picture: Picture, w: u64, rows: &mut [u32], n: usize) -> Result<usize, Stop>
-        ensures { n ≤ room_of rows.old → GaveAs (pixel_of picture self w) n rows.old rows.new result }
+    // The kind of a word: inside a group it is one of its own, whatever its type.
+    #[tactic(auto, unfolding(crate::specs::Words::kind_in))]
+    fn kind(self, w: u64) -> Kind
+        ensures { result ≡ kind_in self w }
     {
-        match self.high {
-            Some(high) => {
-                let x = (w / 2048 % 2048) as u32;
-                let y = (w % 2048) as u32;
-                if picture.holds(x, y) {
-                    let polarity = (w / 268435456 % 2) as u32;
-                    return words::give(rows, n, Row::pixel(time_at(high, w), x, y, polarity));
-                }
-                Err(Stop::Refused(Fault::Outside))
-            }
-            None => Ok(n),
+        match self.group {
+            Some(group) => Kind::Inside(group),
+            None => Kind::from(w),
         }
     }
 
-    // EXT_TRIGGER: one trigger, if the high part is known.
-    #[tactic(auto, unfolding(crate::specs::Words::trigger_of))]
-    fn ext_trigger(self, w: u64, rows: &mut [u32], n: usize) -> Result<usize, Stop>
-        ensures { n ≤ room_of rows.old → GaveAs (trigger_of self w) n rows.old rows.new result }
+    // Whether a word is a pixel, outside a group.
+    #[tactic(auto, unfolding(crate::specs::Words::kind_in, crate::specs::Words::kind_of))]
+    fn is_pixel(self, w: u64) -> bool
+        ensures { result ≡ true → kind_in self w ≡ Cd }
     {
-        match self.high {
-            Some(high) => {
-                let row = Row::trigger(time_at(high, w), (w / 256 % 32) as u32, (w % 2) as u32);
-                words::give(rows, n, row)
-            }
-            None => Ok(n),
-        }
+        self.group.is_none() && w / 268435456 % 16 < 2
     }
 
-    // Whether EVT_TIME_HIGH is lower than before.
-    #[tactic(auto, unfolding(crate::specs::Words::goes_back))]
-    fn goes_back(self, w: u64) -> bool
-        ensures { result ≡ goes_back self w }
+    // EVT_TIME_HIGH: the high part.
+    fn time_high(&mut self, w: u64)
+        ensures { self.new ≡ with_high self.old (field 0 28 w) }
     {
-        match self.high {
-            Some(high) => w % 268435456 < high as u64,
-            None => false,
-        }
+        self.high = Some((w % 268435456) as u32);
     }
 
     // Reads a word at a place: writes its row, if it has one and there is room, and moves the state, if it sets something.
@@ -92,48 +75,95 @@ impl State {
         rows: &mut [u32],
         n: usize,
     ) -> Result<Turn, Stop>
-        ensures { n ≤ room_of rows.old → StepAs (step picture self.old place w) self.old n rows.old rows.new result self.new }
+        ensures { StepAs (step picture self.old place w) self.old n rows.old rows.new result self.new }
     {
-        // Asked before the word's kind, so that no group is copied into the kind.
-        if let Some(group) = self.group {
-            return self.inside(group, w, rows, n);
-        }
-        match Kind::from(w) {
+        // Asked before the kind, and not for each kind, so that words before the first TIME_HIGH and those after it have a loop each.
+        let Some(high) = self.high else {
+            return self.unclocked(w, rows, n);
+        };
+        match self.kind(w) {
             Kind::Cd => {
-                let count = self.cd(picture, w, rows, n)?;
+                let count = cd(high, picture, w, rows, n)?;
                 Ok(Turn::Stays(count))
             }
             Kind::TimeHigh => {
-                if self.goes_back(w) {
+                if is_before(w, high) {
                     return Err(Stop::Refused(Fault::BadTime));
                 }
-                self.high = Some((w % 268435456) as u32);
-                Ok(Turn::Moves(n))
+                self.time_high(w);
+                Ok(Turn::Ticks(n))
             }
             Kind::ExtTrigger => {
-                let count = self.ext_trigger(w, rows, n)?;
+                let count = ext_trigger(high, w, rows, n)?;
                 Ok(Turn::Stays(count))
             }
-            Kind::ImuEvt => match self.high {
-                // An IMU reading begins, if the high part is known.
-                Some(high) => {
-                    self.group = Some(Group::begun(high, place, w));
-                    Ok(Turn::Moves(n))
-                }
-                None => Ok(Turn::Stays(n)),
-            },
+            Kind::ImuEvt => {
+                self.group = Some(Group::begun(high, place, w));
+                Ok(Turn::Moves(n))
+            }
             Kind::Others | Kind::Continued => Ok(Turn::Stays(n)),
             Kind::Reserved => Err(Stop::Refused(Fault::Reserved)),
             Kind::Inside(group) => self.inside(group, w, rows, n),
         }
     }
 
+    // A word before the first TIME_HIGH, whatever the picture and its place: none but that one sets anything, and none gives a row.
+    fn unclocked(&mut self, w: u64, rows: &mut [u32], n: usize) -> Result<Turn, Stop>
+        requires { self.old.high ≡ None }
+        ensures { (picture : Picture) (place : ℕ) → StepAs (step picture self.old place w) self.old n rows.old rows.new result self.new }
+    {
+        // Asked first, since the kinds are told apart by one test after another here, a pixel last.
+        if self.is_pixel(w) {
+            return Ok(Turn::Stays(n));
+        }
+        match self.kind(w) {
+            Kind::TimeHigh => {
+                self.time_high(w);
+                Ok(Turn::Ticks(n))
+            }
+            Kind::Reserved => Err(Stop::Refused(Fault::Reserved)),
+            Kind::Inside(group) => self.inside(group, w, rows, n),
+            Kind::Cd | Kind::ExtTrigger | Kind::ImuEvt | Kind::Others | Kind::Continued => {
+                Ok(Turn::Stays(n))
+            }
+        }
+    }
+
     // One word more of a group.
     fn inside(&mut self, group: Group, w: u64, rows: &mut [u32], n: usize) -> Result<Turn, Stop>
-        ensures { n ≤ room_of rows.old → StepAs (onto (inside_of group w) (with_group self.old (further group w))) self.old n rows.old rows.new result self.new }
+        ensures { StepAs (onto (inside_of group w) (with_group self.old (further group w))) self.old n rows.old rows.new result self.new }
     {
         let count = group.give(w, rows, n)?;
         self.group = group.further(w);
         Ok(Turn::Moves(count))
     }
+}
+
+// Whether EVT_TIME_HIGH is lower than a high part before it.
+#[tactic(auto, unfolding(crate::specs::Words::is_before))]
+fn is_before(w: u64, high: u32) -> bool
+    ensures { result ≡ is_before (field 0 28 w) (Some high) }
+{
+    w % 268435456 < high as u64
+}
+
+// CD_OFF, CD_ON: one pixel, after a high part.
+fn cd(high: u32, picture: Picture, w: u64, rows: &mut [u32], n: usize) -> Result<usize, Stop>
+    ensures { GaveAs (pixel_at picture w high) n rows.old rows.new result }
+{
+    let x = (w / 2048 % 2048) as u32;
+    let y = (w % 2048) as u32;
+    if picture.holds(x, y) {
+        let polarity = (w / 268435456 % 2) as u32;
+        return words::give(rows, n, Row::pixel(time_at(high, w), x, y, polarity));
+    }
+    Err(Stop::Refused(Fault::Outside))
+}
+
+// EXT_TRIGGER: one trigger, after a high part.
+fn ext_trigger(high: u32, w: u64, rows: &mut [u32], n: usize) -> Result<usize, Stop>
+    ensures { GaveAs (trigger_at w high) n rows.old rows.new result }
+{
+    let row = Row::trigger(time_at(high, w), (w / 256 % 32) as u32, (w % 2) as u32);
+    words::give(rows, n, row)
 }

@@ -15,7 +15,7 @@ unless_short false w = omega arith
 pub y_short : (told : Told) (y camera : ℕ) → length (y_words told y camera) ≤ 1
 y_short told y camera = unless_short (told.lined && eqb told.y y && eqb told.camera camera) _
 
-high_short : (n : ℕ) (known : Bool) (old high : ℕ) → length (high_words n known old high) ≤ 1 + 2 * n
+pub high_short : (n : ℕ) (known : Bool) (old high : ℕ) → length (high_words n known old high) ≤ 1 + 2 * n
 unfolding high_words
 high_short zero known old high = unless_short (known && eqb old high) (high_word high)
 high_short (suc n) known old high =

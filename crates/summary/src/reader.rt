@@ -5,7 +5,7 @@ ghost use Rattle.words.specs.Words.{value};
 ghost use Rattle.summary.specs.Fields.{Fields, tagged, fields_of, block_from, adds_up, blocks_from};
 ghost use Rattle.summary.specs.Reader.{refusal_number, summary_numbers, CutAs, field_or, next_in, many_of, HandedOut, ReadAs};
 
-use crate::{Block, block_count};
+use crate::{BLOCK, Block, block_count};
 use words::Word;
 
 // Why bytes are refused.
@@ -157,7 +157,7 @@ fn judge(fields: &[u8], rows: usize) -> Result<usize, Refusal>
             Field::Count(_) => return Err(Refusal::BadSummary),
             Field::Block(block) => block,
         };
-        let some = left.min(256);
+        let some = left.min(BLOCK as u64);
         if !adds_up(some, block) {
             return Err(Refusal::BadSummary);
         }

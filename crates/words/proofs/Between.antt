@@ -97,13 +97,13 @@ module _ {S : Type 0} {m : Machine S} {bytes : List ℕ} {whole : Run (Reached S
       pub goes_on_gave : {buf' : List ℕ} {r : Result ℕ Stop} {k : ℕ} → GaveAs g n buf buf' r → r ≡ Ok k → Between m bytes whole old n₀ s' (at + m.size) k buf'
       goes_on_gave {buf'} {r} {k} did is =
           let all : WroteAll g n buf buf' k = gave_all g (subst (GaveAs g n buf buf') is did) in
-          let f : n + length all.new ≤ room_of old = omega (arith, all.fits, sofar_room h.sofar) in
+          let f : n + length all.new ≤ room_of old = omega (arith, all.fits, between_room, sofar_room h.sofar) in
           subst (λ (j : ℕ). Between m bytes whole old n₀ s' (at + m.size) j buf') all.count (goes_on (given_step all.given) f all.wrote)
 
       pub did_gave_full : {buf' : List ℕ} {r : Result ℕ Stop} → GaveAs g n buf buf' r → r ≡ Err stop.Full → Did whole old n₀ (refused NoRoom (m.origin s at)) n buf'
       did_gave_full {buf'} did is =
           let none : WroteNone g n buf buf' = gave_nothing g (subst (GaveAs g n buf buf') is did) in
-          let k : room_of old < n + length none.new = omega (arith, none.full, sofar_room h.sofar) in
+          let k : room_of old < n + length none.new = omega (arith, none.full, between_room, sofar_room h.sofar) in
           subst (Did whole old n₀ (refused NoRoom (m.origin s at)) n) (sym none.wrote) (did_full (given_step none.given) k)
 
       pub did_gave : {buf' : List ℕ} {r : Result ℕ Stop} {f : Fault} → GaveAs g n buf buf' r → r ≡ Err (stop.Refused f) → Did whole old n₀ (refused f at) n buf'

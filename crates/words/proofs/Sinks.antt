@@ -1,39 +1,51 @@
 -- Words put one after the other into a sink.
 use mathlib.Core.Path.{◌≡◌, refl, sym, ◌∙◌, ap, ap₂, subst}
-use Prim.Native.Nat.{ℕ, ◌+◌, ◌*◌, ◌/◌, ◌≤◌, ◌<◌}
+use Prim.Native.Nat.{ℕ, ◌+◌, ◌*◌, ◌/◌, ◌≤◌, ◌<◌, min}
 use native.Mathlib.Omega.{arith}
 use native.Mathlib.Nat.{add-mul}
 use mathlib.Core.Bool.{Bool, true, false, cond}
 use mathlib.Core.List.{List, [], ◌∷◌, ◌++◌, append_assoc}
-use lib.ListN.{length}
+use lib.ListN.{length, length-append}
 use lib.Seq.{sets, length-sets}
 use lib.Dec.{ltb}
-use borrow.Author.Tests.{lt-ltb}
+use borrow.Author.Tests.{lt-ltb, ltb-true, ltb-false}
 use Rattle.words.specs.Words.{bytes_of_all}
 use Rattle.words.specs.Writer.{PutWords}
+use Rattle.words.specs.Walked.{words_counted}
 use Rattle.words.specs.Sinks.{room, place_after, places_after, stored, after, Put}
 use Rattle.words.proofs.Writes as words
 
 -- no place and no slice before others
-places_both : (at : ℕ) (a b : List ℕ) → places_after at (a ++ b) ≡ places_after (places_after at a) b
-places_both at [] b = refl
-places_both at (w ∷ a) b = places_both (place_after at) a b
+places_both : (room at : ℕ) (a b : List ℕ) → places_after room at (a ++ b) ≡ places_after room (places_after room at a) b
+places_both room at [] b = refl
+places_both room at (w ∷ a) b = places_both room (place_after room at) a b
 
--- a place that has 64 bits still
-place_fits : (at : ℕ) → at < 18446744073709551615 → place_after at ≡ at + 1
-place_fits at h = omega arith
+-- a place that has room
+place_fits : (room at : ℕ) → at < room → place_after room at ≡ at + 1
+place_fits room at h = rw (lt-ltb at room h) refl
 
-pub places_fit : (at : ℕ) (ws : List ℕ) → at + length ws ≤ 18446744073709551615 → places_after at ws ≡ at + length ws
-places_fit at [] h = omega arith
-places_fit at (w ∷ ws) h =
-    let e : place_after at ≡ at + 1 = place_fits at (omega (arith, h)) in
-    omega (arith, places_fit (place_after at) ws (omega (arith, h, e)), e)
+pub places_fit : (room at : ℕ) (ws : List ℕ) → at + length ws ≤ room → places_after room at ws ≡ at + length ws
+places_fit room at [] h = omega arith
+places_fit room at (w ∷ ws) h =
+    let e : place_after room at ≡ at + 1 = place_fits room at (omega (arith, h)) in
+    omega (arith, places_fit room (place_after room at) ws (omega (arith, h, e)), e)
 
-after_both : (k : Bool) (size : ℕ) (old : List ℕ) (at : ℕ) (a b : List ℕ)
-    → after k size old at (a ++ b) ≡ after k size (after k size old at a) (places_after at a) b
-after_both true size old at [] b = refl
-after_both true size old at (w ∷ a) b = after_both true size (stored size old at w) (place_after at) a b
-after_both false size old at a b = refl
+-- the places of words, as far as there are some
+pub places_min : (room at : ℕ) (ws : List ℕ) → at ≤ room → places_after room at ws ≡ min (at + length ws) room
+places_min room at [] h = omega (arith, h)
+places_min room at (w ∷ ws) h = go (ltb at room) refl (places_min room (at + 1) ws) (places_min room at ws)
+  where
+    go : (t : Bool) → ltb at room ≡ t → (at + 1 ≤ room → places_after room (at + 1) ws ≡ min (at + 1 + length ws) room)
+        → (at ≤ room → places_after room at ws ≡ min (at + length ws) room) → places_after room (cond t (at + 1) at) ws ≡ min (at + length (w ∷ ws)) room
+    go true e more rest = omega (arith, more (omega (arith, ltb-true _ _ e)))
+    go false e more rest = omega (arith, h, rest h, ltb-false _ _ e)
+
+-- words that are counted, in two parts
+pub counted_sum : (a b : List ℕ) → words_counted (a ++ b) ≡ min (words_counted a + words_counted b) 18446744073709551615
+counted_sum a b =
+    let all : (ws : List ℕ) → places_after 18446744073709551615 0 ws ≡ min (0 + length ws) 18446744073709551615 =
+    λ ws. places_min 18446744073709551615 0 ws (omega arith) in
+    omega (arith, all (a ++ b), all a, all b, length-append a b)
 
 stored_length : (size : ℕ) (old : List ℕ) (at w : ℕ) → length (stored size old at w) ≡ length old
 stored_length size old at w = go (ltb at (length old / size))
@@ -41,6 +53,22 @@ stored_length size old at w = go (ltb at (length old / size))
     go : (t : Bool) → length (cond t (sets old (at * size) (bytes_of_all size (w ∷ []))) old) ≡ length old
     go true = length-sets old (at * size) (bytes_of_all size (w ∷ []))
     go false = refl
+
+after_both : (k : Bool) (size : ℕ) (old : List ℕ) (at : ℕ) (a b : List ℕ)
+    → after k size old at (a ++ b) ≡ after k size (after k size old at a) (places_after (room k size old) at a) b
+after_both true size old at [] b = refl
+after_both true size old at (w ∷ a) b =
+    let same : room true size (stored size old at w) ≡ room true size old = ap (λ (n : ℕ). n / size) (stored_length size old at w) in
+    after_both true size (stored size old at w) (place_after (room true size old) at) a b
+    ∙ ap (λ (n : ℕ). after true size (after true size old at (w ∷ a)) (places_after n (place_after (room true size old) at) a) b) same
+after_both false size old at a b = refl
+
+-- a slice keeps its room
+room_kept : (k : Bool) (size : ℕ) (old : List ℕ) (at : ℕ) (ws : List ℕ) → room k size (after k size old at ws) ≡ room k size old
+room_kept true size old at [] = refl
+room_kept true size old at (w ∷ ws) =
+    room_kept true size (stored size old at w) (place_after (room true size old) at) ws ∙ ap (λ (n : ℕ). n / size) (stored_length size old at w)
+room_kept false size old at ws = refl
 
 module _ {size : ℕ} where
   -- none, and some after others
@@ -52,33 +80,31 @@ module _ {size : ℕ} where
       → Put k size a old at between mid → Put k size b between mid new end → Put k size (a ++ b) old at new end
   put_both {k} {a} {b} {at} {mid} {end} {old} {between} {new} h g =
       record {
-        place = g.place ∙ ap (λ (n : ℕ). places_after n b) h.place ∙ sym (places_both at a b);
+        place =
+            g.place
+            ∙ ap₂ (λ (r n : ℕ). places_after r n b) (ap (λ (l : List ℕ). room k size l) h.wrote ∙ room_kept k size old at a) h.place
+            ∙ sym (places_both (room k size old) at a b);
         wrote = g.wrote ∙ ap₂ (λ (l : List ℕ) (n : ℕ). after k size l n b) h.wrote h.place ∙ sym (after_both k size old at a b);
       }
 
-  -- the place after words that are not too many
-  pub placed : {k : Bool} {ws old new : List ℕ} {at r : ℕ} → at + length ws ≤ 18446744073709551615 → Put k size ws old at new r → r ≡ at + length ws
-  placed {k} {ws} {old} {new} {at} f h = h.place ∙ places_fit at ws f
-
   -- where all have room, what is written is what the words' own promise says
-  written_from : (old : List ℕ) (at : ℕ) (ws : List ℕ) → at + length ws ≤ length old / size → at + length ws ≤ 18446744073709551615
+  pub written_from : (old : List ℕ) (at : ℕ) (ws : List ℕ) → at + length ws ≤ length old / size
       → PutWords size ws old (at * size) (after true size old at ws) ((at + length ws) * size)
-  written_from old at [] f g = record { place = add-mul at 0 size; wrote = refl }
-  written_from old at (w ∷ ws) f g =
-      let next : place_after at ≡ at + 1 = place_fits at (omega (arith, g)) in
+  written_from old at [] f = record { place = add-mul at 0 size; wrote = refl }
+  written_from old at (w ∷ ws) f =
+      let next : place_after (length old / size) at ≡ at + 1 = place_fits (length old / size) at (omega (arith, f)) in
       let one : PutWords size (w ∷ []) old (at * size) (stored size old at w) ((at + 1) * size) =
       record { place = add-mul at 1 size; wrote = rw (lt-ltb at (length old / size) (omega (arith, f))) refl } in
       let more : PutWords size ws (stored size old at w) ((at + 1) * size) (after true size (stored size old at w) (at + 1) ws) ((at + 1 + length ws) * size) =
-      written_from (stored size old at w) (at + 1) ws (omega (arith, f, ap (λ (n : ℕ). n / size) (stored_length size old at w))) (omega (arith, g)) in
+      written_from (stored size old at w) (at + 1) ws (omega (arith, f, ap (λ (n : ℕ). n / size) (stored_length size old at w))) in
       let end : at + 1 + length ws ≡ at + length (w ∷ ws) = omega arith in
       subst (λ (n : ℕ). PutWords size (w ∷ ws) old (at * size) (after true size (stored size old at w) n ws) ((at + length (w ∷ ws)) * size)) (sym next)
       (subst (λ (n : ℕ). PutWords size (w ∷ ws) old (at * size) (after true size (stored size old at w) (at + 1) ws) (n * size)) end (words.put_both one more))
 
-  pub written : {ws old new : List ℕ} {at r : ℕ} → at + length ws ≤ room true size old → at + length ws ≤ 18446744073709551615
-      → Put true size ws old at new r → PutWords size ws old (at * size) new (r * size)
-  written {ws} {old} {new} {at} f g h =
-      let all = written_from old at ws f g in
-      record { place = ap (λ (n : ℕ). n * size) (h.place ∙ places_fit at ws g) ∙ all.place; wrote = h.wrote ∙ all.wrote }
+  -- words that have room and were stored
+  pub put_stored : {ws old new : List ℕ} {at r : ℕ} → at + length ws ≤ room true size old
+      → new ≡ sets old (at * size) (bytes_of_all size ws) → r ≡ at + length ws → Put true size ws old at new r
+  put_stored {ws} {old} {new} {at} f b e = record { place = e ∙ sym (places_fit (room true size old) at ws f); wrote = b ∙ sym (written_from old at ws f).wrote }
 
 -- of all the words `ws`, put from the place `from` on, those before `rest` are in the sink, and `at` is the place after them
 pub record Puts (k : Bool) (size : ℕ) (ws old : List ℕ) (from : ℕ) (rest : List ℕ) (at : ℕ) (buf : List ℕ) : Type 0 where

@@ -8,17 +8,16 @@ use lib.ListN.{length, take, drop}
 use Rattle.std.specs.Prelude.{Option, Some, None, Result, Ok, Err}
 use Rattle.rows.specs.declared.fault.Fault.{Fault}
 use Rattle.rows.specs.declared.fault.Fault.TheVariants.{NoRoom, Cut}
-use Rattle.rows.specs.Row.{room_of}
 use Rattle.rows.specs.Runs.{Run, ReadAs}
 use Rattle.words.specs.declared.Stop.{Stop}
 use Rattle.words.specs.declared.Stop.TheVariants.{Full, Refused}
 use Rattle.words.specs.declared.Turn.{Turn}
-use Rattle.words.specs.declared.Turn.TheVariants.{Stays, Moves}
+use Rattle.words.specs.declared.Turn.TheVariants.{Stays, Moves, Ticks}
 use Rattle.words.specs.Machine.{Machine, Reached}
 use Rattle.words.specs.Words.{first_of, words_of, next_at}
 use Rattle.words.specs.Written.{next_of, StepAs}
 use Rattle.words.proofs.Cut.{part_found}
-use Rattle.words.proofs.Between.{Between, between_room, found, word_in, goes_on_gave, ends_whole, ends_pending, ends_part, ends_gave_full, ends_gave}
+use Rattle.words.proofs.Between.{Between, found, word_in, goes_on_gave, ends_whole, ends_pending, ends_part, ends_gave_full, ends_gave}
 use Rattle.words.proofs.Wrote.{onto_given}
 
 module _ {S : Type 0} {m : Machine S} {bytes : List ℕ} {whole : Run (Reached S)} {old : List ℕ} {s : S} {at n : ℕ} {buf : List ℕ}
@@ -42,10 +41,10 @@ module _ {S : Type 0} {m : Machine S} {bytes : List ℕ} {whole : Run (Reached S
       rw (o, cut) (ends_part h (rw cut at there))
 
   -- a word was read
-  module _ (some : 0 < size) {w : ℕ} (is : r ≡ Some (Ok w)) {buf' : List ℕ} {q : Result Turn Stop} {t : S} (stepped : n ≤ room_of buf → StepAs (m.step s at w) s n buf buf' q t) where
+  module _ (some : 0 < size) {w : ℕ} (is : r ≡ Some (Ok w)) {buf' : List ℕ} {q : Result Turn Stop} {t : S} (stepped : StepAs (m.step s at w) s n buf buf' q t) where
     -- what it answered
     answered : {v : Result Turn Stop} → q ≡ v → StepAs (m.step s at w) s n buf buf' v t
-    answered e = subst (λ (a : Result Turn Stop). StepAs (m.step s at w) s n buf buf' a t) e (stepped (between_room h))
+    answered e = subst (λ (a : Result Turn Stop). StepAs (m.step s at w) s n buf buf' a t) e stepped
 
     has_bytes : 0 < m.size
     has_bytes = omega (arith, sized, some)
@@ -56,6 +55,11 @@ module _ {S : Type 0} {m : Machine S} {bytes : List ℕ} {whole : Run (Reached S
     -- its rows were written, and it set something or nothing
     pub step_moved : {k j : ℕ} → q ≡ Ok (Moves k) → j ≡ size → Between m bytes whole old 0 t (at + j) k buf'
     step_moved e f =
+        let done = answered e in
+        rw (done.leads, f, sym sized) (goes_on_gave h has_bytes (here is) (next_of (m.step s at w) s) (onto_given (m.step s at w) s) done.gave refl)
+
+    pub step_ticked : {k j : ℕ} → q ≡ Ok (Ticks k) → j ≡ size → Between m bytes whole old 0 t (at + j) k buf'
+    step_ticked e f =
         let done = answered e in
         rw (done.leads, f, sym sized) (goes_on_gave h has_bytes (here is) (next_of (m.step s at w) s) (onto_given (m.step s at w) s) done.gave refl)
 

@@ -5,6 +5,7 @@ pub mod Picture
 pub mod Promises
 pub mod RoundTrip
 pub mod Sinks
+pub mod Walked
 pub mod Words
 pub mod Writer
 pub mod Written

@@ -1,11 +1,11 @@
 -- What a function that writes a word's rows answers, and what it leaves in the buffer.
-use Rattle.std.specs.Prelude.{◌≡◌, ℕ, ◌+◌, ◌*◌, cond, List, length, leb, Result, Ok, Err}
+use Rattle.std.specs.Prelude.{◌≡◌, ℕ, ◌+◌, ◌-◌, ◌*◌, cond, List, length, leb, Result, Ok, Err}
 use Rattle.std.proofs.lemmas.List.Edits.{sets}
 use Rattle.rows.specs.Row.{flat, room_of}
 use Rattle.words.specs.declared.Stop.{Stop}
 use Rattle.words.specs.declared.Stop.TheVariants.{Full, Refused}
 use Rattle.words.specs.declared.Turn.{Turn}
-use Rattle.words.specs.declared.Turn.TheVariants.{Stays, Moves}
+use Rattle.words.specs.declared.Turn.TheVariants.{Stays, Moves, Ticks}
 use Rattle.words.specs.Machine.{Outcome, next, fault, Given, gives, refuses}
 
 -- what an outcome gives
@@ -13,14 +13,14 @@ abbrev pub given_of : {S : Type 0} → Outcome S → Given
 given_of (next s new) = gives new
 given_of (fault f) = refuses f
 
--- n rows are in a buffer that has room for `room`; a word's rows are added, all or none
+-- n rows are in a buffer that has room for `room`; a word's rows are added, all or none; where n is no less than the room, there is room for none
 abbrev pub gave_of : Given → ℕ → ℕ → Result ℕ Stop
-gave_of (gives new) n room = cond (leb (n + length new) room) (Ok (n + length new)) (Err Full)
+gave_of (gives new) n room = cond (leb (length new) (room - n)) (Ok (n + length new)) (Err Full)
 gave_of (refuses f) n room = Err (Refused f)
 
 -- what the buffer then holds
 abbrev pub gave_to : Given → ℕ → List ℕ → List ℕ
-gave_to (gives new) n old = cond (leb (n + length new) (room_of old)) (sets old (n * 10) (flat new)) old
+gave_to (gives new) n old = cond (leb (length new) (room_of old - n)) (sets old (n * 10) (flat new)) old
 gave_to (refuses f) n old = old
 
 -- both
@@ -37,12 +37,14 @@ next_of (fault f) s = s
 abbrev pub count_of : Result Turn Stop → Result ℕ Stop
 count_of (Ok (Stays k)) = Ok k
 count_of (Ok (Moves k)) = Ok k
+count_of (Ok (Ticks k)) = Ok k
 count_of (Err e) = Err e
 
 -- and of the state that was s and is t then: it is the next one, which is s where it stays; and where the reader stops it is s still
 abbrev pub Leads : {S : Type 0} → Result Turn Stop → S → S → S → Type 0
 Leads (Ok (Stays k)) s t to = (t ≡ s) × (s ≡ to)
 Leads (Ok (Moves k)) s t to = t ≡ to
+Leads (Ok (Ticks k)) s t to = t ≡ to
 Leads (Err e) s t to = t ≡ s
 
 -- a word is read: what it gives is written, all or none, and the next state is its own

@@ -43,11 +43,13 @@ pub enum Stop {
     Refused(Fault),
 }
 
-// A word that was read: how many rows there are then, and whether it set something.
+// A word that was read: how many rows there are then, and whether the state stays, may have moved, or moved by a tick of its clock. A tick is a move:
+// it is told apart for the loop alone, which goes its own way for each of the three.
 #[derive(Clone, Copy, Debug, PartialEq, Eq)]
 pub enum Turn {
     Stays(usize),
     Moves(usize),
+    Ticks(usize),
 }
 
 // One row after the n that are in the slice, if there is room for it: so many are finished then. The slice and n stay two parameters here and

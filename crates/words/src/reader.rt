@@ -1,5 +1,5 @@
 // The reader of every format of words: one loop over the words of bytes, by the format's machine.
-ghost use Rattle.std.specs.Prelude.{◌≡◌, ◌≤◌, min, length};
+ghost use Rattle.std.specs.Prelude.{◌≡◌, min, length};
 ghost use Rattle.rows.specs.Row.{room_of};
 ghost use Rattle.rows.specs.Runs.{ReadAs};
 ghost use Rattle.words.specs.Machine.{Machine, read_from};
@@ -25,7 +25,7 @@ pub trait Reader {
 
     // Reads a word at a place: writes the rows that it gives, all or none, after the n that are in the slice, answers how many there are then, and moves
     // the state, if the word sets something; where it stops, the state stays. One method and one match on a word's kind: where one method gave the rows
-    // and another the state, words that set something took up to four times as long.
+    // and another the state, words that set something took up to three times as long.
     fn step(
         &self,
         state: &mut Self::State,
@@ -34,7 +34,7 @@ pub trait Reader {
         rows: &mut [u32],
         n: usize,
     ) -> Result<Turn, Stop>
-        ensures { n ≤ room_of rows.old → StepAs ((machine self.now).step state.old place w) state.old n rows.old rows.new result state.new };
+        ensures { StepAs ((machine self.now).step state.old place w) state.old n rows.old rows.new result state.new };
 
     // Whether a group is in hand.
     fn is_pending(&self, state: Self::State) -> bool
@@ -91,9 +91,15 @@ pub fn read_words<R: Reader>(
                         n = count;
                         at += R::Word::SIZE;
                     }
-                    // Words that set something go round the loop from here, so that the others have a way of their own, in which the state stays where
-                    // it is: without it EVT2 takes a fifth longer.
+                    // Words that move the state go round the loop from here, so that the others have a way of their own, in which the state stays
+                    // where it is: without it EVT2 takes a fifth longer.
                     Ok(Turn::Moves(count)) => {
+                        n = count;
+                        at += R::Word::SIZE;
+                        continue;
+                    }
+                    // So do ticks, which leave a group in hand where it is: in one way with the others they took half as long again.
+                    Ok(Turn::Ticks(count)) => {
                         n = count;
                         at += R::Word::SIZE;
                         continue;

@@ -1,5 +1,5 @@
 // Words of two, four and eight bytes, the low byte first: read at the front of a slice, and stored in one.
-ghost use Rattle.std.specs.Prelude.{◌≡◌, ℕ, ◌+◌, ◌<◌, ◌≤◌, MatchOption, [], ◌∷◌, length, take};
+ghost use Rattle.std.specs.Prelude.{◌≡◌, ℕ, ◌+◌, ◌*◌, ◌<◌, ◌≤◌, MatchOption, [], ◌∷◌, length, take};
 ghost use Rattle.std.proofs.Common.{rules};
 ghost use Rattle.words.specs.Words.{value, first_of, words_of};
 ghost use Rattle.words.specs.Writer.{PutWords};
@@ -104,6 +104,18 @@ pub(crate) fn store<W: Word>(out: &mut [u8], at: usize, word: u64) -> usize
     let end = at + W::SIZE;
     out[at..end].copy_from_slice(&word.to_le_bytes()[..W::SIZE]);
     end
+}
+
+// Stores words one after the other, and answers the place after them.
+pub(crate) fn store_all<W: Word>(out: &mut [u8], at: usize, words: &[u64]) -> usize
+    requires { at + length words.now * W.SIZE ≤ length out.old }
+    ensures { PutWords W.SIZE words.now out.old at out.new result }
+{
+    let mut to = at;
+    for word in words {
+        to = store::<W>(out, to, *word);
+    }
+    to
 }
 
 // Stores a word where there is room for it, and answers the place after it. Where there is none it answers none, and touches nothing.

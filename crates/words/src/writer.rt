@@ -1,11 +1,10 @@
 // The writer of every format of words: a list is judged and its words are counted, and then they are written.
-ghost use Rattle.std.specs.Prelude.{◌≡◌, ℕ, ◌+◌, ◌*◌, ◌≤◌, length};
-ghost use Rattle.std.proofs.lemmas.List.Edits.{sets};
+ghost use Rattle.std.specs.Prelude.{◌≡◌, ℕ, true};
 ghost use Rattle.rows.specs.Row.{rows_of};
-ghost use Rattle.rows.specs.Rules.{accepted, judged_of, verdict_from};
-ghost use Rattle.words.specs.Sinks.{Put};
-ghost use Rattle.words.specs.Words.{bytes_of_all};
-ghost use Rattle.words.specs.Writer.{Spelling, spelled, writing_of, WroteAs, Walk, Spells};
+ghost use Rattle.rows.specs.Rules.{judged_of};
+ghost use Rattle.words.specs.Sinks.{after, Put};
+ghost use Rattle.words.specs.Walked.{walk_verdict, words_counted, WalkedAs};
+ghost use Rattle.words.specs.Writer.{Spelling, writing_of, Walk, walked};
 
 use crate::sink::{Counted, Sink, Written, room};
 use crate::word::Word;
@@ -48,10 +47,10 @@ pub trait Writer {
 
 // Judges rows one after the other and counts their words: what is to be written if there is room.
 fn count<W: Writer>(rows: &[u32]) -> Result<usize, WriteError>
-    ensures { Spells W.spelling W.walk W.begin W.last → result ≡ writing_of (verdict_from W.spelling.writable (rows_of rows.now) 0 0) (length (spelled W.spelling rows.now)) }
+    ensures { result ≡ writing_of (walk_verdict W.spelling.writable W.walk W.last W.begin (rows_of rows.now) 0) (words_counted (walked W.walk W.begin (rows_of rows.now))) }
 {
     let mut nothing: [u8; 0] = [];
-    let mut words = 0;
+    let mut words: usize = 0;
     let mut standing = W::start();
     // A `for` over indices would find each row anew and unwrap it, and an index is what a refusal answers.
     let mut i = 0;
@@ -59,15 +58,16 @@ fn count<W: Writer>(rows: &[u32]) -> Result<usize, WriteError>
         if let Err(fault) = W::judge(standing, row) {
             return Err(WriteError { fault, row: i });
         }
-        words = W::put::<Counted>(&mut nothing, words, &mut standing, row);
+        // Each row's words are counted from 0 on, which compiled is a small number, and added up here alone.
+        words = words.saturating_add(W::put::<Counted>(&mut nothing, 0, &mut standing, row));
         i += 1;
     }
-    Ok(W::close::<Counted>(&mut nothing, words, standing))
+    Ok(words.saturating_add(W::close::<Counted>(&mut nothing, 0, standing)))
 }
 
-// Writes the words of rows that were judged, into a slice that they fit.
+// Writes the words of rows into a slice.
 fn put_rows<W: Writer>(rows: &[u32], out: &mut [u8])
-    ensures { Spells W.spelling W.walk W.begin W.last → verdict_from W.spelling.writable (rows_of rows.now) 0 0 ≡ accepted → length (spelled W.spelling rows.now) * W.Word.SIZE ≤ length out.old → out.new ≡ sets out.old 0 (bytes_of_all W.Word.SIZE (spelled W.spelling rows.now)) }
+    ensures { out.new ≡ after true W.Word.SIZE out.old 0 (walked W.walk W.begin (rows_of rows.now)) }
 {
     let mut at = 0;
     let mut standing = W::start();
@@ -80,11 +80,11 @@ fn put_rows<W: Writer>(rows: &[u32], out: &mut [u8])
     W::close::<Written>(out, at, standing);
 }
 
-// Writes the words of rows from the first byte of `out` on, and answers how many they are. Refused, it touches nothing. What is asked speaks of the
-// format alone, and no law of the trait says it, since a law can rest on no lemma of the format's proofs/: the rows of a list that passes add the words
-// of its spelling.
+// Writes the words of rows from the first byte of `out` on, and answers how many they are. Refused, it touches nothing. The words are those that the
+// format's walk adds. That they are those of its spelling no law of the trait says, since a law can rest on no lemma of a format's proofs/: where they
+// are (`Spells`), the format's own promise follows (`spelled_as`).
 pub fn write<W: Writer>(rows: &[u32], out: &mut [u8]) -> Result<usize, WriteError>
-    ensures { Spells W.spelling W.walk W.begin W.last → WroteAs W.spelling rows.now out.old out.new result }
+    ensures { WalkedAs W.Word.SIZE W.spelling.writable W.walk W.begin W.last rows.now out.old out.new result }
 {
     if !rows::good_length(rows) {
         return Err(WriteError {

@@ -3,7 +3,7 @@ use mathlib.Core.Path.{sym, ◌∙◌, ap}
 use native.Mathlib.Omega.{arith}
 use Rattle.std.specs.Prelude.{Some, Ok, Err}
 use Rattle.words.proofs.Between.{between_start}
-use Rattle.words.proofs.Stepped.{done_whole, done_pending, done_part, step_within, step_moved, step_stayed, step_full, step_refused}
+use Rattle.words.proofs.Stepped.{done_whole, done_pending, done_part, step_within, step_moved, step_ticked, step_stayed, step_full, step_refused}
 use Rattle.words.proofs.reader.read_words.Goals as goal
 
 pub loop-front-init : goal.loop-front-init
@@ -44,6 +44,17 @@ loop-front-preserved-in-Ok-Moves g c =
     rw c.in-Ok-Moves.count-is
     (step_moved c.loop-front.invariant (g.met.R.Reader.sized _) c.first.ensures g.met.R.Word.Word.some (c.in-Some.is ∙ ap Some c.in-Ok.is) c.step.ensures
     (c.in-Ok-Moves.is ∙ ap Ok c.in-Ok-Moves.field-0-is) c.SIZE-at-in-Ok-Moves.ensures)
+
+pub loop-front-smaller-in-Ok-Ticks : goal.loop-front-smaller-in-Ok-Ticks
+loop-front-smaller-in-Ok-Ticks g c =
+    let within = step_within c.loop-front.invariant (g.met.R.Reader.sized _) c.first.ensures g.met.R.Word.Word.some (c.in-Some.is ∙ ap Some c.in-Ok.is) c.step.ensures in
+    omega (arith, within, g.met.R.Word.Word.some, c.SIZE-at-in-Ok-Ticks.ensures)
+
+pub loop-front-preserved-in-Ok-Ticks : goal.loop-front-preserved-in-Ok-Ticks
+loop-front-preserved-in-Ok-Ticks g c =
+    rw c.in-Ok-Ticks.count-is
+    (step_ticked c.loop-front.invariant (g.met.R.Reader.sized _) c.first.ensures g.met.R.Word.Word.some (c.in-Some.is ∙ ap Some c.in-Ok.is) c.step.ensures
+    (c.in-Ok-Ticks.is ∙ ap Ok c.in-Ok-Ticks.field-0-is) c.SIZE-at-in-Ok-Ticks.ensures)
 
 pub returns-then-is_pending : goal.returns-then-is_pending
 returns-then-is_pending g c =

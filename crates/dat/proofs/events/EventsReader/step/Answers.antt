@@ -8,8 +8,8 @@ pub returns-in_err-count : goal.returns-in_err-count
 unfolding step
 returns-in_err-count c =
     let e = err_from_is_err_and c.from_residual.result c.from_residual.ensures.1 in
-    λ room. rw (e.1, e.2) (step_stops _ _ _ (c.in_err-count.ensures room))
+    rw (e.1, e.2) (step_stops _ _ _ c.in_err-count.ensures)
 
 pub returns : goal.returns
 unfolding step
-returns c = λ room. rw c.event.ensures (step_moves _ _ _ (c.in_ok-count.ensures room))
+returns c = rw c.event.ensures (step_moves _ _ _ c.in_ok-count.ensures)

@@ -15,7 +15,7 @@ use Rattle.words.specs.declared.Turn.{Turn}
 use Rattle.words.specs.declared.Turn.TheVariants.{Stays, Moves, Ticks}
 use Rattle.words.specs.Machine.{Machine, Reached}
 use Rattle.words.specs.Words.{first_of, words_of, next_at}
-use Rattle.words.specs.Written.{next_of, StepAs}
+use Rattle.words.specs.Written.{next_of, count_of, StepAs}
 use Rattle.words.proofs.Cut.{part_found}
 use Rattle.words.proofs.Between.{Between, found, word_in, goes_on_gave, ends_whole, ends_pending, ends_part, ends_gave_full, ends_gave}
 use Rattle.words.proofs.Wrote.{onto_given}
@@ -52,21 +52,21 @@ module _ {S : Type 0} {m : Machine S} {bytes : List ℕ} {whole : Run (Reached S
     pub step_within : at + size ≤ length bytes
     step_within = omega (arith, sized, word_in h has_bytes (here is))
 
-    -- its rows were written, and it set something or nothing
+    -- its rows were written, and the state moved, by a tick or otherwise, or stayed
+    went : {v : Result Turn Stop} {k j : ℕ} → q ≡ v → count_of v ≡ Ok k → t ≡ next_of (m.step s at w) s → j ≡ size → Between m bytes whole old 0 t (at + j) k buf'
+    went e c l f =
+        rw (l, f, sym sized) (goes_on_gave h has_bytes (here is) (next_of (m.step s at w) s) (onto_given (m.step s at w) s) (answered e).gave c)
+
     pub step_moved : {k j : ℕ} → q ≡ Ok (Moves k) → j ≡ size → Between m bytes whole old 0 t (at + j) k buf'
-    step_moved e f =
-        let done = answered e in
-        rw (done.leads, f, sym sized) (goes_on_gave h has_bytes (here is) (next_of (m.step s at w) s) (onto_given (m.step s at w) s) done.gave refl)
+    step_moved e f = went e refl (answered e).leads f
 
     pub step_ticked : {k j : ℕ} → q ≡ Ok (Ticks k) → j ≡ size → Between m bytes whole old 0 t (at + j) k buf'
-    step_ticked e f =
-        let done = answered e in
-        rw (done.leads, f, sym sized) (goes_on_gave h has_bytes (here is) (next_of (m.step s at w) s) (onto_given (m.step s at w) s) done.gave refl)
+    step_ticked e f = went e refl (answered e).leads f
 
     pub step_stayed : {k j : ℕ} → q ≡ Ok (Stays k) → j ≡ size → Between m bytes whole old 0 t (at + j) k buf'
     step_stayed e f =
         let done = answered e in
-        rw (done.leads.0 ∙ done.leads.1, f, sym sized) (goes_on_gave h has_bytes (here is) (next_of (m.step s at w) s) (onto_given (m.step s at w) s) done.gave refl)
+        went e refl (done.leads.0 ∙ done.leads.1) f
 
     -- or had no room, or it was refused
     pub step_full : {origin : ℕ} → q ≡ Err Full → origin ≡ m.origin t at → ReadAs whole old buf' (Err (record { fault = NoRoom; rows = n; place = origin }))

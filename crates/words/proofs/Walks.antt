@@ -1,9 +1,9 @@
--- Writers that go over rows one by one, whatever they add for them: how the loop that judges the rows and the loops that put their words go on.
+-- Writers that go over rows one by one, whatever they add for them: how the loop that judges rows and counts their words and the loop that writes them go on.
 use mathlib.Core.Path.{◌≡◌, refl, sym, ◌∙◌, ap, subst}
 use Prim.Native.Nat.{ℕ, suc, ◌+◌, ◌*◌, ◌≤◌, ◌<◌, min}
 use native.Mathlib.Omega.{arith}
 use native.Mathlib.Numerals.{add-one}
-use mathlib.Core.Bool.{Bool}
+use mathlib.Core.Bool.{Bool, true}
 use mathlib.Core.List.{List, [], ◌∷◌, ◌++◌, append_assoc}
 use Rattle.std.specs.Prelude.{Ok, Err}
 use Rattle.rows.specs.declared.fault.Fault.{Fault}
@@ -24,33 +24,33 @@ module _ {W : Type 0} (k : Walk W) where
   row_left : (l : List ℕ) (i : ℕ) → i < room_of l → {r : Row} → r ≡ row_from l (i * 10) → rest l i ≡ r ∷ rest l (i + 1)
   row_left l i h e = rest_more l i h ∙ ap (λ (q : Row). q ∷ rest l (i + 1)) (sym e)
 
-  -- the words of i rows are in a sink, and those of the others are to come
-  pub record Walking (writes : Bool) (size : ℕ) (start : W) (l old : List ℕ) (at : ℕ) (w : W) (i : ℕ) (buf : List ℕ) : Type 0 where
-    pub puts : Puts writes size (walked k start (rows_of l)) old 0 (walked k w (rest l i)) at buf
+  -- the words of i rows are in a slice, and those of the others are to come
+  pub record Walking (size : ℕ) (start : W) (l old : List ℕ) (at : ℕ) (w : W) (i : ℕ) (buf : List ℕ) : Type 0 where
+    pub puts : Puts true size (walked k start (rows_of l)) old 0 (walked k w (rest l i)) at buf
 
-  pub walking_start : (writes : Bool) (size : ℕ) (start : W) (l old : List ℕ) → Walking writes size start l old 0 start 0 old
-  walking_start writes size start l old =
+  pub walking_start : (size : ℕ) (start : W) (l old : List ℕ) → Walking size start l old 0 start 0 old
+  walking_start size start l old =
       record {
         puts =
-            subst (λ (rs : List Row). Puts writes size (walked k start (rows_of l)) old 0 (walked k start rs) 0 old) (rest_all l)
+            subst (λ (rs : List Row). Puts true size (walked k start (rows_of l)) old 0 (walked k start rs) 0 old) (rest_all l)
             (puts_start (walked k start (rows_of l)) old 0);
       }
 
-  module _ {writes : Bool} {size : ℕ} {start : W} {l old : List ℕ} {at : ℕ} {w : W} {i : ℕ} {buf : List ℕ} (h : Walking writes size start l old at w i buf) where
-    pub walking_next : {r : Row} → i < room_of l → r ≡ row_from l (i * 10) → {at' : ℕ} {next : W} {buf' : List ℕ} → Put writes size (k.words w r) buf at buf' at'
-        → next ≡ k.next w r → Walking writes size start l old at' next (i + 1) buf'
+  module _ {size : ℕ} {start : W} {l old : List ℕ} {at : ℕ} {w : W} {i : ℕ} {buf : List ℕ} (h : Walking size start l old at w i buf) where
+    pub walking_next : {r : Row} → i < room_of l → r ≡ row_from l (i * 10) → {at' : ℕ} {next : W} {buf' : List ℕ} → Put true size (k.words w r) buf at buf' at'
+        → next ≡ k.next w r → Walking size start l old at' next (i + 1) buf'
     walking_next {r} f e p n =
         rw n
         (record {
           puts =
               puts_more (k.words w r)
-              (subst (λ (rs : List Row). Puts writes size (walked k start (rows_of l)) old 0 (walked k w rs) at buf) (row_left l i f e) h.puts) p;
+              (subst (λ (rs : List Row). Puts true size (walked k start (rows_of l)) old 0 (walked k w rs) at buf) (row_left l i f e) h.puts) p;
         })
 
-    pub walking_done : room_of l ≤ i → {end : ℕ} {buf' : List ℕ} → Put writes size (k.close w) buf at buf' end
-        → Put writes size (walked k start (rows_of l)) old 0 buf' end
+    pub walking_done : room_of l ≤ i → {end : ℕ} {buf' : List ℕ} → Put true size (k.close w) buf at buf' end
+        → Put true size (walked k start (rows_of l)) old 0 buf' end
     walking_done f p =
-        last_put (k.close w) (subst (λ (ws : List ℕ). Puts writes size (walked k start (rows_of l)) old 0 ws at buf) (none_left l w i f) h.puts) p
+        last_put (k.close w) (subst (λ (ws : List ℕ). Puts true size (walked k start (rows_of l)) old 0 ws at buf) (none_left l w i f) h.puts) p
 
   -- the words of i rows are counted
   pub record Counting (start : W) (l : List ℕ) (words : ℕ) (w : W) (i : ℕ) : Type 0 where

@@ -8,7 +8,7 @@ abbrev pub room : (writes : Bool) → ℕ → List ℕ → ℕ
 room true size out = length out / size
 room false size out = 18446744073709551615
 
--- the place after a word: where there was room for so many at most, a word without room takes none
+-- the place after a word, where so many words have room: one that has no room takes no place
 abbrev pub place_after : (room at : ℕ) → ℕ
 place_after room at = cond (ltb at room) (at + 1) at
 

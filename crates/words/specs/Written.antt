@@ -13,7 +13,7 @@ abbrev pub given_of : {S : Type 0} → Outcome S → Given
 given_of (next s new) = gives new
 given_of (fault f) = refuses f
 
--- n rows are in a buffer that has room for `room`; a word's rows are added, all or none; where n is no less than the room, there is room for none
+-- n rows are in a buffer that has room for `room`; a word's rows are added, all of them where they fit in what is left of the room, and else none
 abbrev pub gave_of : Given → ℕ → ℕ → Result ℕ Stop
 gave_of (gives new) n room = cond (leb (length new) (room - n)) (Ok (n + length new)) (Err Full)
 gave_of (refuses f) n room = Err (Refused f)

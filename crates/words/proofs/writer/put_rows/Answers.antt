@@ -5,7 +5,7 @@ use Rattle.words.proofs.Walks.{walking_start, walking_next, walking_done}
 use Rattle.words.proofs.writer.put_rows.Goals as goal
 
 pub loop-row-init : goal.loop-row-init
-loop-row-init g c = rw c.start-standing.ensures (walking_start _ _ _ _ _ _)
+loop-row-init g c = rw c.start-standing.ensures (walking_start _ _ _ _ _)
 
 pub loop-row-preserved : goal.loop-row-preserved
 loop-row-preserved g c =

@@ -4,7 +4,7 @@ ghost use Rattle.dat.specs.Words.{fresh};
 ghost use Rattle.dat.specs.Reader.{machine};
 
 use crate::state::State;
-use words::{Picture, Reader, Stop, Turn};
+use words::{Picture, StepReader, Stop, Turn};
 
 // Events of a picture.
 #[derive(Clone, Copy, Debug, PartialEq, Eq)]
@@ -12,7 +12,7 @@ pub(crate) struct Events {
     pub picture: Picture,
 }
 
-impl Reader for Events {
+impl StepReader for Events {
     type Word = u64;
 
     type State = State;

@@ -27,7 +27,7 @@ fn read_data(
         });
     }
     if bytes[at] == 0 && bytes[at + 1] == 8 {
-        words::read_words(&Events { picture }, bytes, at + 2, rows)
+        words::read_steps(&Events { picture }, bytes, at + 2, rows)
     } else {
         Err(ReadError {
             fault: Fault::BadHeader,

@@ -8,7 +8,7 @@ ghost use Rattle.evt2.specs.Reader.{machine, reading_of};
 
 use crate::state::State;
 use rows::ReadError;
-use words::{Picture, Reader, Stop, Turn};
+use words::{Picture, StepReader, Stop, Turn};
 
 // EVT2 words of a picture.
 #[derive(Clone, Copy)]
@@ -16,7 +16,7 @@ struct Words {
     picture: Picture,
 }
 
-impl Reader for Words {
+impl StepReader for Words {
     type Word = u32;
 
     type State = State;
@@ -61,5 +61,5 @@ pub fn read(bytes: &[u8], width: u32, height: u32, rows: &mut [u32]) -> Result<u
         rows: 0,
         place: 0,
     })?;
-    words::read_words(&Words { picture }, bytes, 0, rows)
+    words::read_steps(&Words { picture }, bytes, 0, rows)
 }

@@ -8,7 +8,7 @@ ghost use Rattle.evt3.specs.Reader.{machine, reading_of};
 
 use crate::state::State;
 use rows::ReadError;
-use words::{Picture, Reader, Stop, Turn};
+use words::{Picture, StepReader, Stop, Turn};
 
 // Words of a picture.
 #[derive(Clone, Copy, Debug, PartialEq, Eq)]
@@ -16,7 +16,7 @@ struct Stream {
     picture: Picture,
 }
 
-impl Reader for Stream {
+impl StepReader for Stream {
     type Word = u16;
 
     type State = State;
@@ -61,5 +61,5 @@ pub fn read(bytes: &[u8], width: u32, height: u32, rows: &mut [u32]) -> Result<u
         rows: 0,
         place: 0,
     })?;
-    words::read_words(&Stream { picture }, bytes, 0, rows)
+    words::read_steps(&Stream { picture }, bytes, 0, rows)
 }

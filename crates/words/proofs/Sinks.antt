@@ -4,7 +4,7 @@ use Prim.Native.Nat.{ℕ, ◌+◌, ◌*◌, ◌/◌, ◌≤◌, ◌<◌, min}
 use native.Mathlib.Omega.{arith}
 use native.Mathlib.Nat.{add-mul}
 use mathlib.Core.Bool.{Bool, true, false, cond}
-use mathlib.Core.List.{List, [], ◌∷◌, ◌++◌, append_assoc}
+use mathlib.Core.List.{List, [], ◌∷◌, ◌++◌, append_assoc, append-nil}
 use lib.ListN.{length, length-append}
 use lib.Seq.{sets, length-sets}
 use lib.Dec.{ltb}
@@ -76,14 +76,15 @@ module _ {size : ℕ} where
   put_none true old at = record { place = refl; wrote = refl }
   put_none false old at = record { place = refl; wrote = refl }
 
+  -- a sink keeps its room
+  pub put_room : {k : Bool} {ws : List ℕ} {at end : ℕ} {old new : List ℕ} → Put k size ws old at new end → room k size new ≡ room k size old
+  put_room {k} {ws} {at} {end} {old} h = ap (λ (l : List ℕ). room k size l) h.wrote ∙ room_kept k size old at ws
+
   pub put_both : {k : Bool} {a b : List ℕ} {at mid end : ℕ} {old between new : List ℕ}
       → Put k size a old at between mid → Put k size b between mid new end → Put k size (a ++ b) old at new end
   put_both {k} {a} {b} {at} {mid} {end} {old} {between} {new} h g =
       record {
-        place =
-            g.place
-            ∙ ap₂ (λ (r n : ℕ). places_after r n b) (ap (λ (l : List ℕ). room k size l) h.wrote ∙ room_kept k size old at a) h.place
-            ∙ sym (places_both (room k size old) at a b);
+        place = g.place ∙ ap₂ (λ (r n : ℕ). places_after r n b) (put_room h) h.place ∙ sym (places_both (room k size old) at a b);
         wrote = g.wrote ∙ ap₂ (λ (l : List ℕ) (n : ℕ). after k size l n b) h.wrote h.place ∙ sym (after_both k size old at a b);
       }
 
@@ -100,6 +101,11 @@ module _ {size : ℕ} where
       let end : at + 1 + length ws ≡ at + length (w ∷ ws) = omega arith in
       subst (λ (n : ℕ). PutWords size (w ∷ ws) old (at * size) (after true size (stored size old at w) n ws) ((at + length (w ∷ ws)) * size)) (sym next)
       (subst (λ (n : ℕ). PutWords size (w ∷ ws) old (at * size) (after true size (stored size old at w) (at + 1) ws) (n * size)) end (words.put_both one more))
+
+  pub written : {ws old new : List ℕ} {at r : ℕ} → at + length ws ≤ room true size old → Put true size ws old at new r → PutWords size ws old (at * size) new (r * size)
+  written {ws} {old} {new} {at} f h =
+      let all = written_from old at ws f in
+      record { place = ap (λ (n : ℕ). n * size) (h.place ∙ places_fit (room true size old) at ws f) ∙ all.place; wrote = h.wrote ∙ all.wrote }
 
   -- words that have room and were stored
   pub put_stored : {ws old new : List ℕ} {at r : ℕ} → at + length ws ≤ room true size old
@@ -121,6 +127,18 @@ module _ {size : ℕ} where
         → Put k size new buf at buf' at' → Puts k size ws old from rest at' buf'
     puts_more new {rest} h p =
         record { done = h.done ++ new; same = h.same ∙ sym (append_assoc h.done new rest); put = put_both h.put p }
+
+    -- the next words have room where all have
+    pub puts_fit : (new rest : List ℕ) {at : ℕ} {buf : List ℕ} → Puts k size ws old from (new ++ rest) at buf → from + length ws ≤ room k size old
+        → at + length new ≤ room k size buf
+    puts_fit new rest {at} {buf} h f =
+        let all : length ws ≡ length h.done + (length new + length rest) =
+        ap length h.same ∙ length-append h.done (new ++ rest) ∙ ap (λ (n : ℕ). length h.done + n) (length-append new rest) in
+        omega (arith, f, put_room h.put, h.put.place, places_fit (room k size old) from h.done (omega (arith, f, all)), all)
+
+    pub last_fit : (new : List ℕ) {at : ℕ} {buf : List ℕ} → Puts k size ws old from new at buf → from + length ws ≤ room k size old
+        → at + length new ≤ room k size buf
+    last_fit new {at} {buf} h f = puts_fit new [] (subst (λ (l : List ℕ). Puts k size ws old from l at buf) (sym (append-nil new)) h) f
 
     -- the last words
     pub last_put : (new : List ℕ) {at end : ℕ} {buf buf' : List ℕ} → Puts k size ws old from new at buf → Put k size new buf at buf' end

@@ -15,7 +15,7 @@ use Rattle.words.specs.declared.Turn.{Turn}
 use Rattle.words.specs.declared.Turn.TheVariants.{Stays, Moves, Ticks}
 use Rattle.words.specs.Machine.{Machine, Reached}
 use Rattle.words.specs.Words.{first_of, words_of, next_at}
-use Rattle.words.specs.Written.{next_of, count_of, StepAs}
+use Rattle.words.specs.Written.{given_of, GaveAs, next_of, count_of, StepAs}
 use Rattle.words.proofs.Cut.{part_found}
 use Rattle.words.proofs.Between.{Between, found, word_in, goes_on_gave, ends_whole, ends_pending, ends_part, ends_gave_full, ends_gave}
 use Rattle.words.proofs.Wrote.{onto_given}
@@ -40,6 +40,13 @@ module _ {S : Type 0} {m : Machine S} {bytes : List ℕ} {whole : Run (Reached S
       let cut : f ≡ Cut = (part_found (words_of m.size (drop at bytes)) there).1 in
       rw (o, cut) (ends_part h (rw cut at there))
 
+  -- a word was read, gave its rows or none, and leads to a state
+  module _ (some : 0 < size) {w : ℕ} (is : r ≡ Some (Ok w)) {buf' : List ℕ} {q : Result ℕ Stop} (gave : GaveAs (given_of (m.step s at w)) n buf buf' q) where
+    pub step_done : {s' : S} {k j : ℕ} → q ≡ Ok k → s' ≡ next_of (m.step s at w) s → j ≡ size → Between m bytes whole old 0 s' (at + j) k buf'
+    step_done e to f =
+        let has_bytes : 0 < m.size = omega (arith, sized, some) in
+        rw (to, f, sym sized) (goes_on_gave h has_bytes (here is) (next_of (m.step s at w) s) (onto_given (m.step s at w) s) gave e)
+
   -- a word was read
   module _ (some : 0 < size) {w : ℕ} (is : r ≡ Some (Ok w)) {buf' : List ℕ} {q : Result Turn Stop} {t : S} (stepped : StepAs (m.step s at w) s n buf buf' q t) where
     -- what it answered
@@ -54,8 +61,7 @@ module _ {S : Type 0} {m : Machine S} {bytes : List ℕ} {whole : Run (Reached S
 
     -- its rows were written, and the state moved, by a tick or otherwise, or stayed
     went : {v : Result Turn Stop} {k j : ℕ} → q ≡ v → count_of v ≡ Ok k → t ≡ next_of (m.step s at w) s → j ≡ size → Between m bytes whole old 0 t (at + j) k buf'
-    went e c l f =
-        rw (l, f, sym sized) (goes_on_gave h has_bytes (here is) (next_of (m.step s at w) s) (onto_given (m.step s at w) s) (answered e).gave c)
+    went e c l f = step_done some is (answered e).gave c l f
 
     pub step_moved : {k j : ℕ} → q ≡ Ok (Moves k) → j ≡ size → Between m bytes whole old 0 t (at + j) k buf'
     step_moved e f = went e refl (answered e).leads f

@@ -1,10 +1,10 @@
--- What the writer answers of a list where the format's walk spells its words: the promise of `WalkedAs` is that of `WroteAs`.
-use mathlib.Core.Path.{◌≡◌, refl, sym, ◌∙◌, ap}
+-- What the writer answers of a list where the format's walk spells its words (the promise of `WalkedAs` is that of `WroteAs`), and how its two loops go on there.
+use mathlib.Core.Path.{◌≡◌, refl, sym, ◌∙◌, ap, subst}
 use Prim.Native.Nat.{ℕ, suc, ◌+◌, ◌*◌, ◌/◌, ◌≤◌, ◌<◌}
 use native.Mathlib.Omega.{arith}
-use native.Mathlib.Nat.{le-div_iff_mul-le, div-lt_iff_lt-mul}
+use native.Mathlib.Nat.{le-div_iff_mul-le, div-lt_iff_lt-mul, add-mul}
 use mathlib.Core.Bool.{Bool, true, false, cond}
-use mathlib.Core.List.{List, [], ◌∷◌}
+use mathlib.Core.List.{List, [], ◌∷◌, ◌++◌, append-nil}
 use lib.ListN.{length, length-append}
 use lib.Dec.{leb}
 use borrow.Author.Tests.{le-leb, lt-leb, leb-true, leb-false}
@@ -13,18 +13,19 @@ use Rattle.rows.specs.declared.fault.Fault.{Fault}
 use Rattle.rows.specs.declared.fault.Fault.TheVariants.{NoRoom, BadList}
 use Rattle.rows.specs.declared.fault.WriteError.{WriteError}
 use Rattle.rows.specs.declared.row.Row.{Row}
-use Rattle.rows.specs.Row.{time_of, rows_of, over}
+use Rattle.rows.specs.Row.{time_of, room_of, row_from, rows_of, over}
 use Rattle.rows.specs.Rules.{Verdict, accepted, refused, verdict_then, judged_of, verdict_from, good_length, verdict_of}
 use Rattle.rows.proofs.Judging.{few_rows, judged_is_time, judged_later, judged_good, accepted_list, good_list}
 use Rattle.rows.proofs.Kept.{good_timely}
 use Rattle.rows.proofs.Lists.{rows_of_length}
 use Rattle.rows.proofs.Stored.{sets_over}
-use Rattle.words.specs.Sinks.{room, after}
+use Rattle.words.specs.Sinks.{room, after, Put}
 use Rattle.words.specs.Walked.{walk_verdict, words_counted, walk_judged, where_accepted, WalkedAs}
 use Rattle.words.specs.Words.{bytes_of_all}
-use Rattle.words.specs.Writer.{Spelling, spelled, then_judged, room_for, writing_verdict, writing_of, WroteAs, Walk, walked, Spells}
-use Rattle.words.proofs.Sinks.{places_fit, written_from}
-use Rattle.words.proofs.Writes.{all_length}
+use Rattle.words.specs.Writer.{Spelling, spelled, then_judged, room_for, writing_verdict, writing_of, WroteAs, PutWords, Walk, walked, Spells}
+use Rattle.words.proofs.Sinks.{places_fit, written, written_from}
+use Rattle.words.proofs.Walks.{Counting, counting_start, counting_done, counting_next, counting_refused, Putting, putting_start, putting_close, row_fits, putting_next}
+use Rattle.words.proofs.Writes.{all_length, Writes, writes_fit, writes_more, writes_done}
 
 not_accepted : {E : Type 0} {f : Fault} {i : ℕ} → refused f i ≡ accepted → E
 not_accepted e = let z : ◌≡◌ {A = ℕ} 0 1 = cc in absurd (omega arith)
@@ -42,7 +43,7 @@ room_accepted s words bytes e = go (leb (words * s.size) bytes) refl e
 
 module _ {W : Type 0} {s : Spelling} {k : Walk W} {start : W} {last : W → ℕ} (p : Spells s k start last) where
   -- rows are judged alike
-  same_verdict : (w : W) (rs : List Row) (i : ℕ) → walk_verdict s.writable k last w rs i ≡ verdict_from s.writable rs i (last w)
+  pub same_verdict : (w : W) (rs : List Row) (i : ℕ) → walk_verdict s.writable k last w rs i ≡ verdict_from s.writable rs i (last w)
   unfolding verdict_from
   same_verdict w [] i = refl
   same_verdict w (r ∷ rs) i = go (same_verdict (k.next w r) rs (suc i)) (judged_of (s.writable r) r (last w)) refl
@@ -54,7 +55,7 @@ module _ {W : Type 0} {s : Spelling} {k : Walk W} {start : W} {last : W → ℕ}
       go more (Err f) e = refl
 
   -- and those that pass add few words
-  few_words : (w : W) (rs : List Row) (i : ℕ) → last w < 17179869184 → walk_verdict s.writable k last w rs i ≡ accepted
+  pub few_words : (w : W) (rs : List Row) (i : ℕ) → last w < 17179869184 → walk_verdict s.writable k last w rs i ≡ accepted
       → length (walked k w rs) + p.paid (last w) ≤ 16 * length rs + 65552
   few_words w [] i t e = omega (arith, p.cheap (last w) t, p.closes w)
   few_words w (r ∷ rs) i t e = go (few_words (k.next w r) rs (suc i)) (judged_of (s.writable r) r (last w)) refl e
@@ -76,7 +77,7 @@ module _ {W : Type 0} {s : Spelling} {k : Walk W} {start : W} {last : W → ℕ}
       from_first : verdict_from s.writable (rows_of l) 0 0 ≡ accepted
       from_first = sym (good_list s.writable l (accepted_list s.writable l passed).0) ∙ passed
 
-      words_spelled : walked k start (rows_of l) ≡ spelled s l
+      pub words_spelled : walked k start (rows_of l) ≡ spelled s l
       words_spelled = p.spells (rows_of l) from_first
 
       few : length (walked k start (rows_of l)) ≤ 18446744073709551615
@@ -90,11 +91,11 @@ module _ {W : Type 0} {s : Spelling} {k : Walk W} {start : W} {last : W → ℕ}
             few_rows l (accepted_list s.writable l passed).0,
           )
 
-      counted : words_counted (walked k start (rows_of l)) ≡ length (spelled s l)
+      pub counted : words_counted (walked k start (rows_of l)) ≡ length (spelled s l)
       counted = omega (arith, places_fit 18446744073709551615 0 (walked k start (rows_of l)) (omega (arith, few)), ap length words_spelled)
 
       -- written, they are the bytes of the spelling over the front of the buffer
-      stored_all : length (spelled s l) * s.size ≤ length old → after true size old 0 (walked k start (rows_of l)) ≡ over (bytes_of_all s.size (spelled s l)) old
+      pub stored_all : length (spelled s l) * s.size ≤ length old → after true size old 0 (walked k start (rows_of l)) ≡ over (bytes_of_all s.size (spelled s l)) old
       stored_all fits =
           let front : 0 * size ≡ 0 = omega arith in
           let room : 0 + length (walked k start (rows_of l)) ≤ length old / size =
@@ -102,7 +103,7 @@ module _ {W : Type 0} {s : Spelling} {k : Walk W} {start : W} {last : W → ℕ}
           let bytes : length (bytes_of_all s.size (spelled s l)) ≤ length old = omega (arith, all_length s.size (spelled s l), fits) in
           (written_from old 0 (walked k start (rows_of l)) room).wrote ∙ rw (front, words_spelled, sym sized) (sets_over (bytes_of_all s.size (spelled s l)) old bytes)
 
-      room_alike : cond (leb (words_counted (walked k start (rows_of l))) (room true size old)) accepted (refused NoRoom 0)
+      pub room_alike : cond (leb (words_counted (walked k start (rows_of l))) (room true size old)) accepted (refused NoRoom 0)
           ≡ room_for s (length (spelled s l)) (length old)
       room_alike =
           rw (counted, sized) (go (leb (length (spelled s l)) (length old / size)) refl)
@@ -112,7 +113,7 @@ module _ {W : Type 0} {s : Spelling} {k : Walk W} {start : W} {last : W → ℕ}
           go true e = rw (le-leb _ _ ((le-div_iff_mul-le some).0 (leb-true _ _ e)))
           go false e = rw (lt-leb _ _ ((div-lt_iff_lt-mul some).0 (leb-false _ _ e)))
 
-    same_judged : walk_judged size s.writable k start last l old ≡ writing_verdict s l (length old)
+    pub same_judged : walk_judged size s.writable k start last l old ≡ writing_verdict s l (length old)
     unfolding writing_verdict verdict_of
     same_judged = ap (λ (v : Verdict). then_judged (cond (good_length (length l)) v (refused BadList 0)) roomy) rows_alike ∙ go (verdict_of s.writable l) refl
       where
@@ -137,3 +138,97 @@ module _ {W : Type 0} {s : Spelling} {k : Walk W} {start : W} {last : W → ℕ}
             let both = then_accepted (verdict_of s.writable l) (room_for s (length (spelled s l)) (length old)) e in
             let fits = room_accepted s (length (spelled s l)) (length old) both.1 in
             record { answer = a ∙ ap Ok (counted both.0) ∙ rw e; wrote = b ∙ stored_all both.0 fits ∙ rw e }
+
+-- the two loops of such a writer
+module _ {W : Type 0} {s : Spelling} {k : Walk W} {start : W} {last : W → ℕ} (p : Spells s k start last) where
+  -- i rows passed
+  pub record Counts (l : List ℕ) (words : ℕ) (w : W) (i : ℕ) : Type 0 where
+    pub counting : Counting k s.writable start l words w (last w) i
+    pub small : words ≤ 16 * i + p.paid (last w)
+    pub timely : last w < 17179869184
+
+  pub counts_start : (l : List ℕ) → Counts l 0 start 0
+  counts_start l =
+      record {
+        counting = rw p.begins (counting_start k s.writable start l);
+        small = omega arith;
+        timely = omega (arith, p.begins);
+      }
+
+  module _ {l : List ℕ} {words : ℕ} {w : W} {i : ℕ} (h : Counts l words w i) where
+    pub counts_done : room_of l ≤ i → {n : ℕ} → n ≡ words + length (k.close w)
+        → Ok n ≡ writing_of (verdict_from s.writable (rows_of l) 0 0) (length (spelled s l))
+    counts_done f e =
+        let done = counting_done k h.counting f in
+        rw done.0 (ap Ok (e ∙ sym done.1 ∙ ap length (p.spells (rows_of l) done.0)))
+
+    -- no sum is too large
+    pub close_room : words + length (k.close w) ≤ 16 * room_of l + 65552
+    close_room = omega (arith, h.small, p.cheap (last w) h.timely, h.counting.judging.within, p.closes w)
+
+    module _ {r : Row} (f : i < room_of l) (e : r ≡ row_from l (i * 10)) where
+      pub counts_refused : {fault : Fault} → Err fault ≡ judged_of (s.writable r) r (last w)
+          → Err (record { fault = fault; row = i }) ≡ writing_of (verdict_from s.writable (rows_of l) 0 0) (length (spelled s l))
+      counts_refused g = rw (counting_refused k h.counting f e g)
+
+      module _ {t : ℕ} (g : Ok t ≡ judged_of (s.writable r) r (last w)) where
+        is_time : t ≡ time_of r
+        is_time = judged_is_time (s.writable r) r (last w) g
+
+        fewer : length (k.words w r) + p.paid (last w) ≤ 16 + p.paid (time_of r)
+        fewer = p.short w r (omega (arith, is_time, judged_later (s.writable r) r (last w) g))
+
+        in_limit : time_of r < 17179869184
+        in_limit = good_timely r (judged_good (s.writable r) r (last w) g).0
+
+        pub row_room : words + length (k.words w r) ≤ 16 * room_of l + 65552
+        row_room = omega (arith, h.small, f, p.cheap (time_of r) in_limit, fewer)
+
+        pub counts_next : {n : ℕ} {next : W} → n ≡ words + length (k.words w r) → next ≡ k.next w r → Counts l n next (i + 1)
+        counts_next {n} {next} a b =
+            let same : last (k.next w r) ≡ t = p.goes w r ∙ sym is_time in
+            let counted : Counting k s.writable start l (words + length (k.words w r)) (k.next w r) t (i + 1) = counting_next k h.counting f e g refl in
+            rw (a, b)
+            (record {
+              counting = rw same counted;
+              small = omega (arith, h.small, fewer, ap p.paid (p.goes w r));
+              timely = omega (arith, in_limit, p.goes w r);
+            })
+
+  -- the loop that writes them
+  pub record Wrote (size : ℕ) (l old : List ℕ) (at : ℕ) (w : W) (i : ℕ) (buf : List ℕ) : Type 0 where
+    pub putting : Putting k size (spelled s l) l old (at * size) w i buf
+
+  pub wrote_start : (size : ℕ) (l old : List ℕ) → verdict_from s.writable (rows_of l) 0 0 ≡ accepted → Wrote size l old 0 start 0 old
+  wrote_start size l old e =
+      let none : 0 ≡ 0 * size = omega arith in
+      record {
+        putting =
+            subst (λ (n : ℕ). Putting k size (spelled s l) l old n start 0 old) none
+            (subst (λ (ws : List ℕ). Putting k size ws l old 0 start 0 old) (p.spells (rows_of l) e) (putting_start k size start l old));
+      }
+
+  module _ {size : ℕ} (some : 0 < size) {l old : List ℕ} {at : ℕ} {w : W} {i : ℕ} {buf : List ℕ} (h : Wrote size l old at w i buf)
+      (room : length (spelled s l) * size ≤ length old) where
+    fits_in : (n : ℕ) → at * size + n * size ≤ length buf → at + n ≤ length buf / size
+    fits_in n f = (le-div_iff_mul-le some).1 (omega (arith, f, add-mul at n size))
+
+    -- what is left after the last row
+    module _ (f : room_of l ≤ i) where
+      close_here : Writes size (spelled s l) old 0 (k.close w ++ []) (at * size) buf
+      close_here =
+          subst (λ (ws : List ℕ). Writes size (spelled s l) old 0 ws (at * size) buf) (sym (append-nil (k.close w))) (putting_close k h.putting f)
+
+      pub close_fits : at + length (k.close w) ≤ length buf / size
+      close_fits = fits_in (length (k.close w)) (writes_fit (k.close w) [] close_here (omega (arith, room)))
+
+      pub wrote_all : {end : ℕ} {buf' : List ℕ} → Put true size (k.close w) buf at buf' end → PutWords size (spelled s l) old 0 buf' (end * size)
+      wrote_all q = writes_done (writes_more (k.close w) close_here (written close_fits q))
+
+    module _ {r : Row} (f : i < room_of l) (e : r ≡ row_from l (i * 10)) where
+      pub words_fit : at + length (k.words w r) ≤ length buf / size
+      words_fit = fits_in (length (k.words w r)) (row_fits k h.putting f e room)
+
+      pub wrote_next : {at' : ℕ} {next : W} {buf' : List ℕ} → Put true size (k.words w r) buf at buf' at' → next ≡ k.next w r
+          → Wrote size l old at' next (i + 1) buf'
+      wrote_next {at'} {next} {buf'} q n = rw n (record { putting = putting_next k h.putting f e (written words_fit q) })

@@ -1,5 +1,5 @@
 -- The invariant of a loop that writes words, over any format, and what each function that writes some of them has done.
-use mathlib.Core.Path.{◌≡◌, refl, sym, ◌∙◌, ap, ap₂}
+use mathlib.Core.Path.{◌≡◌, refl, sym, ◌∙◌, ap, ap₂, subst}
 use Prim.Native.Nat.{ℕ, ◌+◌, ◌-◌, ◌*◌, ◌≤◌}
 use native.Mathlib.Omega.{arith}
 use native.Mathlib.Nat.{add-mul}
@@ -62,7 +62,23 @@ pub record Writes (size : ℕ) (ws old : List ℕ) (from : ℕ) (rest : List ℕ
   pub same : ws ≡ done ++ rest
   pub put : PutWords size done old from buf at
 
+pub writes_start : (size : ℕ) (ws old : List ℕ) (from : ℕ) → Writes size ws old from ws from old
+writes_start size ws old from = record { done = []; same = refl; put = put_none size old from }
+
 module _ {size : ℕ} {ws old : List ℕ} {from : ℕ} where
+  pub writes_length : {rest : List ℕ} {at : ℕ} {buf : List ℕ} → Writes size ws old from rest at buf → length buf ≡ length old
+  writes_length h = put_length h.put
+
+  -- the next words have room where all have
+  pub writes_fit : (new rest : List ℕ) {at : ℕ} {buf : List ℕ} → Writes size ws old from (new ++ rest) at buf → from + length ws * size ≤ length old
+      → at + length new * size ≤ length buf
+  writes_fit new rest {at} {buf} h f =
+      let all : length ws ≡ length h.done + (length new + length rest) = ap length h.same ∙ length-append h.done (new ++ rest) ∙ ap (λ (n : ℕ). length h.done + n) (length-append new rest) in
+      omega (arith, f, writes_length h, h.put.place, ap (λ (n : ℕ). n * size) all, add-mul (length h.done) (length new + length rest) size, add-mul (length new) (length rest) size)
+
   pub writes_more : (new : List ℕ) {rest : List ℕ} {at at' : ℕ} {buf buf' : List ℕ} → Writes size ws old from (new ++ rest) at buf → PutWords size new buf at buf' at'
       → Writes size ws old from rest at' buf'
   writes_more new {rest} h p = record { done = h.done ++ new; same = h.same ∙ sym (append_assoc h.done new rest); put = put_both h.put p }
+
+  pub writes_done : {at : ℕ} {buf : List ℕ} → Writes size ws old from [] at buf → PutWords size ws old from buf at
+  writes_done {at} {buf} h = subst (λ (l : List ℕ). PutWords size l old from buf at) (sym (append-nil h.done) ∙ sym h.same) h.put

@@ -18,7 +18,7 @@ use Rattle.words.specs.declared.Stop.TheVariants.{Full, Refused}
 use Rattle.words.specs.declared.Turn.TheVariants.{Stays, Moves, Ticks}
 use Rattle.words.specs.Machine.{Outcome, next, fault, Given, gives, refuses, refused_if, onto}
 pub use Rattle.words.specs.Written.{next_of}
-use Rattle.words.specs.Written.{given_of, GaveAs, StepAs}
+use Rattle.words.specs.Written.{given_of, IsGiven, GaveAs, StepAs}
 
 -- an outcome is what it gives with its next state, and any state where it is refused
 pub given_onto : {S : Type 0} (g : Given) (s : S) → given_of (onto g s) ≡ g
@@ -31,6 +31,11 @@ gave_onto s {g} {n} {old} {buf} {r} h = subst (λ (a : Given). GaveAs a n old bu
 pub onto_given : {S : Type 0} (o : Outcome S) (s : S) → o ≡ onto (given_of o) (next_of o s)
 onto_given (next s' new) s = refl
 onto_given (fault f) s = refl
+
+-- and where it is not refused, it leads to that state
+pub onto_leads : {S : Type 0} (g : Given) (t s : S) → IsGiven (given_of (onto g t)) → t ≡ next_of (onto g t) s
+onto_leads (gives new) t s h = refl
+onto_leads (refuses f) t s h = absurd h
 
 pub no_stop : {E : Type 0} {r : Stop} {n : ℕ} → Err r ≡ Ok n → E
 no_stop e = let z : ◌≡◌ {A = ℕ} 0 1 = cc in absurd (omega arith)
@@ -55,6 +60,14 @@ module _ (new : List Row) (n : ℕ) {old : List ℕ} where
 
   pub gave_full : room_of old - n < length new → GaveAs (gives new) n old old (Err Full)
   gave_full h = record { answer = simp (lt-leb _ _ h); wrote = simp (lt-leb _ _ h) }
+
+-- where the rows before are within the room, more fit in what is left of it where all of them fit in it
+pub fits_alike : (n m room : ℕ) → n ≤ room → leb m (room - n) ≡ leb (n + m) room
+fits_alike n m room h = go (leb (n + m) room) refl
+  where
+    go : (t : Bool) → leb (n + m) room ≡ t → leb m (room - n) ≡ t
+    go true e = le-leb _ _ (omega (arith, leb-true _ _ e, h))
+    go false e = lt-leb _ _ (omega (arith, leb-false _ _ e, h))
 
 -- no row
 pub gave_none : (n : ℕ) (old : List ℕ) → GaveAs (gives []) n old old (Ok n)

@@ -1,5 +1,5 @@
 -- What a function that writes a word's rows answers, and what it leaves in the buffer.
-use Rattle.std.specs.Prelude.{◌≡◌, ℕ, ◌+◌, ◌-◌, ◌*◌, cond, List, length, leb, Result, Ok, Err}
+use Rattle.std.specs.Prelude.{◌≡◌, ℕ, ◌+◌, ◌-◌, ◌*◌, cond, List, length, leb, Result, Ok, Err, ⊤}
 use Rattle.std.proofs.lemmas.List.Edits.{sets}
 use Rattle.rows.specs.Row.{flat, room_of}
 use Rattle.words.specs.declared.Stop.{Stop}
@@ -32,6 +32,11 @@ pub record GaveAs (g : Given) (n : ℕ) (old new : List ℕ) (r : Result ℕ Sto
 abbrev pub next_of : {S : Type 0} → Outcome S → S → S
 next_of (next s' new) s = s'
 next_of (fault f) s = s
+
+-- rows, and no refusal
+abbrev pub IsGiven : Given → Type 0
+IsGiven (gives new) = ⊤
+IsGiven (refuses f) = ⊥
 
 -- what a reader of a word answers of the rows
 abbrev pub count_of : Result Turn Stop → Result ℕ Stop

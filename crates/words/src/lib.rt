@@ -7,7 +7,8 @@
 //     Word                          a word of two, four or eight bytes: u16, u32, u64
 //     first::<W>(bytes)             the word at the front of a slice, a part of one, or the end
 //     put_word::<W>(out, at, n)     a number stored as a word, where it has room
-//     Reader, read_words            a format that is read, and the loop that reads it
+//     StepReader, read_steps        a format that is read in one step for each word, and the loop that reads it
+//     Reader, read_words            a format that is read in three methods, for the kind of a word, its rows and the next state; the same loop reads it
 //     Writer, write                 a format that is written, and the function that writes it
 //     Sink, Written, Counted        where its words go: into a slice, or nowhere, where they are counted alone
 //     give(rows, n, row)            a word's row into a lent slice, after the n that are there
@@ -24,14 +25,16 @@ ghost use Rattle.words.specs.Written.{GaveAs};
 
 use rows::{Fault, Row};
 
+mod kinds;
 mod picture;
 mod reader;
 mod sink;
 mod word;
 mod writer;
 
+pub use kinds::{Reader, read_words};
 pub use picture::{Picture, admit};
-pub use reader::{Reader, read_words};
+pub use reader::{StepReader, read_steps};
 pub use sink::{Counted, Sink, Written};
 pub use word::{Word, first, put_word};
 pub use writer::{Writer, write};

@@ -9,8 +9,8 @@ use crate::word::{Word, first};
 use crate::{Stop, Turn};
 use rows::{Fault, ReadError};
 
-// A format that is read word by word.
-pub trait Reader {
+// A format that is read word by word, in one step for each.
+pub trait StepReader {
     type Word: Word;
 
     type State: Copy;
@@ -49,7 +49,7 @@ pub trait Reader {
 }
 
 // Reads the words from a place on into rows; past the end there are none.
-pub fn read_words<R: Reader>(
+pub fn read_steps<R: StepReader>(
     reader: &R,
     bytes: &[u8],
     from: usize,

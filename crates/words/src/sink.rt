@@ -22,7 +22,14 @@ pub trait Sink {
 
     // Puts words one after the other, the first of them word `at`, and answers the place after them.
     fn words<W: Word>(out: &mut [u8], at: usize, words: &[u64]) -> usize
-        ensures { Put writes W.SIZE words.now out.old at out.new result };
+        ensures { Put writes W.SIZE words.now out.old at out.new result }
+    {
+        let mut end = at;
+        for word in words {
+            end = Self::word::<W>(out, end, *word);
+        }
+        end
+    }
 }
 
 // Words are written into the slice.

@@ -2,7 +2,7 @@
 use Rattle.std.proofs.lemmas.Result.{err_from_is_err_and}
 use Rattle.words.proofs.Wrote.{step_stops, step_moves}
 use Rattle.dat.specs.Words.{step}
-use Rattle.dat.proofs.events.EventsReader.step.Goals as goal
+use Rattle.dat.proofs.events.EventsStepReader.step.Goals as goal
 
 pub returns-in_err-count : goal.returns-in_err-count
 unfolding step

@@ -1,0 +1,1 @@
+-- No lemmas: the check finds each answer.

@@ -20,7 +20,7 @@ with_late s place word = record { time = s.time; late = Some (record { place = p
 abbrev pub with_time : ℕ → State
 with_time w = record { time = field 0 14 w; late = None }
 
--- the kind of a word by its top two bits, where it begins, and inside a late edge
+-- the kind of a word by its top two bits, outside a late edge and inside one
 abbrev pub kind_of_top : ℕ → Kind
 kind_of_top top =
     cond (eqb top 0) Time
@@ -28,8 +28,8 @@ kind_of_top top =
     (cond (eqb top 2) Late
     Reserved))
 
-unfoldable pub kind_at : ℕ → Kind
-kind_at w = kind_of_top (field 14 2 w)
+unfoldable pub kind_outside : ℕ → Kind
+kind_outside w = kind_of_top (field 14 2 w)
 
 unfoldable pub kind_within : ℕ → Kind
 kind_within w = cond (eqb (field 14 2 w) 2) Second Stray
@@ -39,7 +39,7 @@ is_late (Some l) = true
 is_late None = false
 
 abbrev pub kind_in : State → ℕ → Kind
-kind_in s w = cond (is_late s.late) (kind_within w) (kind_at w)
+kind_in s w = cond (is_late s.late) (kind_within w) (kind_outside w)
 
 -- the edge that a word says, at a time
 abbrev pub edge_of : (time w : ℕ) → Row

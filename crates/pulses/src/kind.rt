@@ -1,6 +1,6 @@
 // The kinds of words.
 ghost use Rattle.std.specs.Prelude.{◌≡◌};
-ghost use Rattle.pulses.specs.Words.{kind_at, kind_within};
+ghost use Rattle.pulses.specs.Words.{kind_outside, kind_within};
 
 // In the order of the top two bits, and then those of a late edge's second word.
 #[derive(Clone, Copy, Debug, PartialEq, Eq)]
@@ -14,10 +14,10 @@ pub(crate) enum Kind {
 }
 
 impl Kind {
-    // That of a word that begins.
-    #[tactic(auto, unfolding(crate::specs::Words::kind_at))]
-    pub(crate) fn at(w: u64) -> Kind
-        ensures { result ≡ kind_at w }
+    // That of a word outside a late edge.
+    #[tactic(auto, unfolding(crate::specs::Words::kind_outside))]
+    pub(crate) fn outside(w: u64) -> Kind
+        ensures { result ≡ kind_outside w }
     {
         match w / 16384 % 4 {
             0 => Kind::Time,

@@ -6,9 +6,9 @@
 // 5..1 and a value in bit 0; 2 the first word of a late edge, with channel and value likewise, whose second word is of type 2 too and has the time of it, from
 // which time goes on; 3 reserved. Before the first time it is 0.
 //
-// Reading is refused: 4 half a word at the end, or one word of a late edge, 3 a reserved word, 8 a second word of another type, a reserved one too, 2 no room for a word's row.
-// The rows finished before the fault are in the slice, nothing past them is touched, and the answer has their count and the place of the word, or for 4
-// and 2 of the late edge.
+// Reading is refused: 4 half a word at the end, or one word of a late edge, 3 a reserved word, 8 a second word of another type, a reserved one too, 2 no
+// room for a word's row. The rows finished before the fault are in the slice, nothing past them is touched, and the answer has their count and the place
+// of the word, or for 4 and 2 of the late edge.
 #![tactic(auto)]
 
 ghost use Rattle.std.specs.Prelude.{false};
@@ -27,15 +27,16 @@ use words::{Reader, Sink, Word, read_words};
 // A time of 5, an edge of channel 3 with value 1, a late edge of channel 31 with value 0 at 16,383, and an edge of channel 0 with value 1.
 const WORDS: [u8; 10] = [5, 0, 7, 64, 62, 128, 255, 191, 1, 64];
 
-// A reserved word after an edge, and a late edge whose second word is a time.
+// A reserved word after an edge.
 const RESERVED: [u8; 4] = [1, 64, 0, 192];
 
+// An edge, and a late one whose second word is a time.
 const STRAY: [u8; 6] = [1, 64, 3, 128, 9, 0];
 
 // A sink of its own, which says what one word does.
-struct Tally;
+struct Counter;
 
-impl Sink for Tally {
+impl Sink for Counter {
     ghost writes = { false };
 
     fn word<W: Word>(_out: &mut [u8], at: usize, _word: u64) -> usize {
@@ -87,7 +88,7 @@ fn main(rt: HostRuntime) -> io::Result<()> {
         }
     }
 
-    let three = Tally::words::<u16>(&mut [], 3, &[1, 2, 3]);
-    let last = Tally::words::<u16>(&mut [], usize::MAX - 1, &[1, 2, 3]);
+    let three = Counter::words::<u16>(&mut [], 3, &[1, 2, 3]);
+    let last = Counter::words::<u16>(&mut [], usize::MAX - 1, &[1, 2, 3]);
     println!(&rt; "{three}, {last}")
 }

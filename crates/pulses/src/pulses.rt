@@ -48,7 +48,7 @@ impl Reader for Pulses {
         if state.late.is_some() {
             return Kind::within(w);
         }
-        Kind::at(w)
+        Kind::outside(w)
     }
 
     fn give(
@@ -73,7 +73,7 @@ impl Reader for Pulses {
 
     fn next(&self, state: State, kind: Kind, place: usize, w: u64) -> Option<State> {
         match kind {
-            Kind::Time | Kind::Second => Some(State::at(w)),
+            Kind::Time | Kind::Second => Some(State::timed(w)),
             Kind::Late => Some(state.begun(place, w)),
             Kind::Edge | Kind::Reserved | Kind::Stray => None,
         }

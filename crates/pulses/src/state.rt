@@ -28,7 +28,7 @@ impl State {
     }
 
     // A time, after which no late edge is in hand.
-    pub(crate) fn at(w: u64) -> State
+    pub(crate) fn timed(w: u64) -> State
         ensures { result ≡ with_time w }
     {
         State {
